@@ -1,12 +1,15 @@
 //! The lines of a log.
-ghost use Rattle.std.specs.Prelude.{◌≡◌, ◌+◌, ◌≤◌, [], ◌∷◌, ◌++◌, OnOk, codes, decimal, length};
+ghost use Rattle.std.specs.Prelude.{◌≡◌, ◌+◌, ◌<◌, ◌≤◌, [], ◌∷◌, ◌++◌, All, OnOk, Some};
+ghost use Rattle.std.specs.Prelude.{codes, decimal, length, slice_get};
+ghost use Rattle.ea_model.specs.declared.entries.Entry.TheVariants.{Info};
 ghost use Rattle.std.specs.List.{flat_map};
+ghost use Rattle.ea_model.specs.Entries.{IsWithin, told};
 ghost use Rattle.ea_report.specs.Printed.{spaced};
 ghost use Rattle.ea_report.specs.Text.{cause_text, fail_words, report_text, entry_text};
 ghost use Rattle.ea_report.specs.declared.tails.TheConstants.{LONGEST};
 
 use crate::tails::Tail;
-use ea_model::{Entry, List, NoCarrier, OutOfMemory, Place, Report, Triple};
+use ea_model::{Entry, List, Log, NoCarrier, OutOfMemory, Place, Report, Reports, Triple};
 
 fn cause_word(cause: NoCarrier) -> &'static str
     ensures word { result.now ≡ cause_text cause }
@@ -88,10 +91,29 @@ fn put_fail(tail: &mut Tail, need: u32, looked: u32, why: NoCarrier)
     tail.text(" fail need");
 }
 
-/// Makes the lines of an entry: the allocator information has two, each other entry one.
-fn put_entry(tail: &mut Tail, entry: &Entry)
+/// Makes the two lines of the allocator information.
+fn put_info(tail: &mut Tail, reports: &Reports)
     requires { tail.old ≡ [] }
-    ensures { tail.new ≡ entry_text entry.now }
+    ensures { tail.new ≡ entry_text (Info reports.now) }
+{
+    put_report(tail, "sbcs", &reports.sbcs);
+    put_report(tail, "mbcs", &reports.mbcs);
+}
+
+/// The reports at a place among these.
+fn reports_at(reports: &[Reports], at: usize) -> &Reports
+    requires { at < length reports.now }
+    ensures { slice_get reports.now at ≡ Some result.now }
+{
+    &reports[at]
+}
+
+/// Makes the lines of an entry, whose reports, if it has any, stand among these: the allocator
+/// information has two, each other entry one.
+fn put_entry(tail: &mut Tail, entry: &Entry<usize>, reports: &[Reports])
+    requires empty { tail.old ≡ [] }
+    requires within { IsWithin (length reports.now) entry.now }
+    ensures { tail.new ≡ entry_text (told reports.now entry.now) }
 {
     match *entry {
         Entry::Alloc { name, place } => {
@@ -190,10 +212,7 @@ fn put_entry(tail: &mut Tail, entry: &Entry)
             tail.number(name);
             tail.text("take");
         }
-        Entry::Info { ref mbcs, ref sbcs } => {
-            put_report(tail, "sbcs", sbcs);
-            put_report(tail, "mbcs", mbcs);
-        }
+        Entry::Info { reports: at } => put_info(tail, reports_at(reports, at)),
         Entry::Idle => tail.text("idle\n"),
         Entry::Stopped { steps } => {
             tail.text("\n");
@@ -203,15 +222,29 @@ fn put_entry(tail: &mut Tail, entry: &Entry)
     }
 }
 
-/// Adds the lines of a log.
-pub fn put_log(text: &mut List<u8>, log: &[Entry]) -> Result<(), OutOfMemory>
-    ensures { OnOk result (text.new.items ≡ text.old.items ++ flat_map entry_text log.now) }
+/// Adds the lines of entries, whose reports stand among these.
+fn put_entries(
+    text: &mut List<u8>,
+    entries: &[Entry<usize>],
+    reports: &[Reports],
+) -> Result<(), OutOfMemory>
+    requires { All (IsWithin (length reports.now)) entries.now }
+    ensures { OnOk result (text.new.items ≡ text.old.items
+        ++ flat_map (λ e. entry_text (told reports.now e)) entries.now) }
 {
     let mut tail = Tail::new();
-    for entry in log {
+    for entry in entries {
         tail.clear();
-        put_entry(&mut tail, entry);
+        put_entry(&mut tail, entry, reports);
         text.extend_from_slice(tail.bytes())?;
     }
     Ok(())
+}
+
+/// Adds the lines of a log.
+pub fn put_log(text: &mut List<u8>, log: &Log) -> Result<(), OutOfMemory>
+    ensures { OnOk result (text.new.items ≡ text.old.items ++ flat_map entry_text log.now.items) }
+{
+    let (entries, reports) = log.parts();
+    put_entries(text, entries, reports)
 }

@@ -1,12 +1,13 @@
 //! The text of a generated trace.
-ghost use Rattle.std.specs.Prelude.{◌≡◌, ◌++◌, IfOk, OnOk, map};
+ghost use Rattle.std.specs.Prelude.{◌≡◌, ◌++◌, [], IfOk, OnOk, count_by, map};
 ghost use Rattle.ea_report.specs.Text.{count_of, counts_text, counted_text, summary_text};
 ghost use Rattle.ea_report.specs.Text as defined;
+ghost use Rattle.ea_model.specs.Entries.{told};
 
 use crate::carriers::put_totals;
 use crate::lines::Word::{Number, Sum, Text};
 use crate::lines::put_line;
-use ea_model::{Entry, List, OutOfMemory, Outcome};
+use ea_model::{Entry, List, Log, OutOfMemory, Outcome};
 use std::alloc::Global;
 
 /// The entries that are counted together: those of operations that were done, and those of
@@ -28,8 +29,8 @@ pub enum Counted {
 }
 
 /// Whether an entry is one of these.
-fn is_of(kind: Counted, entry: &Entry) -> bool
-    ensures { result ≡ defined.is_of kind entry.now }
+fn is_of(kind: Counted, entry: &Entry<usize>) -> bool
+    ensures { result ≡ defined.is_of kind (told [] entry.now) }
 {
     match kind {
         Counted::Alloc => matches!(entry, Entry::Alloc { .. }),
@@ -41,16 +42,23 @@ fn is_of(kind: Counted, entry: &Entry) -> bool
     }
 }
 
-/// How many entries of a log are of these.
-fn count(log: &[Entry], kind: Counted) -> u64
-    ensures { result ≡ count_of kind log.now }
+/// How many entries are of these.
+fn count_in(entries: &[Entry<usize>], kind: Counted) -> u64
+    ensures { result ≡ count_by (λ e. defined.is_of kind (told [] e)) entries.now }
 {
-    log.iter().filter(|entry| is_of(kind, entry)).count() as u64
+    entries.iter().filter(|entry| is_of(kind, entry)).count() as u64
+}
+
+/// How many entries of a log are of these.
+fn count(log: &Log, kind: Counted) -> u64
+    ensures { result ≡ count_of kind log.now.items }
+{
+    count_in(log.parts().0, kind)
 }
 
 /// Adds the line of a scheduler, with the counts of its log.
-fn put_counts(text: &mut List<u8>, number: u64, log: &[Entry]) -> Result<(), OutOfMemory>
-    ensures { OnOk result (text.new.items ≡ text.old.items ++ counts_text number log.now) }
+fn put_counts(text: &mut List<u8>, number: u64, log: &Log) -> Result<(), OutOfMemory>
+    ensures { OnOk result (text.new.items ≡ text.old.items ++ counts_text number log.now.items) }
 {
     let words = [
         Sum(number),
@@ -71,12 +79,12 @@ fn put_counts(text: &mut List<u8>, number: u64, log: &[Entry]) -> Result<(), Out
 }
 
 /// Adds the line of each scheduler.
-fn put_counted(text: &mut List<u8>, logs: &[List<Entry>]) -> Result<(), OutOfMemory>
+fn put_counted(text: &mut List<u8>, logs: &[Log]) -> Result<(), OutOfMemory>
     ensures { OnOk result
         (text.new.items ≡ text.old.items ++ counted_text 1 (map (λ log. log.items) logs.now)) }
 {
     for (index, log) in logs.iter().enumerate() {
-        put_counts(text, index as u64 + 1, log.as_slice())?;
+        put_counts(text, index as u64 + 1, log)?;
     }
     Ok(())
 }

@@ -3,8 +3,8 @@ use crate::carriers::put_carrier;
 use crate::entries::put_log;
 use crate::{print, print_summary};
 use ea_model::{
-    CarrierLine, Entry, Kind, List, NoCarrier, OutOfMemory, Outcome, Place, Report, Standing,
-    Totals, Triple,
+    CarrierLine, Entry, Kind, List, Log, NoCarrier, OutOfMemory, Outcome, Place, Report, Reports,
+    Standing, Totals, Triple,
 };
 use std::alloc::Global;
 use std::test::Fail;
@@ -119,8 +119,10 @@ fn each_kind_of_entry_has_its_line(rt: HostRuntime) -> Result<(), Fail> {
         ),
         (
             Entry::Info {
-                mbcs: report(1),
-                sbcs: report(4_294_967_296),
+                reports: Reports {
+                    mbcs: report(1),
+                    sbcs: report(4_294_967_296),
+                },
             },
             "info mbcs blocks 1 2 3 blocks_size 4 5 6 carriers 7 8 9 carriers_size 10 11 12\n\
             info sbcs blocks 4294967296 4294967297 4294967298 \
@@ -134,7 +136,7 @@ fn each_kind_of_entry_has_its_line(rt: HostRuntime) -> Result<(), Fail> {
     for (entry, line) in cases {
         let mut text = List::new(rt.alloc());
         text.push(b'>')?;
-        put_log(&mut text, &[entry])?;
+        put_log(&mut text, &log_of(rt.alloc(), &[entry])?)?;
         assert_eq!(rt;
             text.as_slice().split_first(),
             Some((&b'>', line.as_bytes())),
@@ -187,10 +189,20 @@ fn a_carrier_has_its_kind_and_its_standing(rt: HostRuntime) -> Result<(), Fail> 
     Ok(())
 }
 
+// The log with these entries.
+fn log_of(alloc: Global, entries: &[Entry<Reports>]) -> Result<Log, OutOfMemory> {
+    let mut log = Log::new(alloc);
+    for entry in entries {
+        log.reserve(1)?;
+        log.push_within(*entry);
+    }
+    Ok(log)
+}
+
 // The outcome of a run with these logs, which left these carriers.
 fn outcome(
     alloc: Global,
-    logs: &[&[Entry]],
+    logs: &[&[Entry<Reports>]],
     carriers: &[CarrierLine],
 ) -> Result<Outcome, OutOfMemory> {
     let mut outcome = Outcome {
@@ -206,15 +218,13 @@ fn outcome(
         },
     };
     for log in logs {
-        let mut entries = List::new(alloc);
-        entries.extend_from_slice(log)?;
-        outcome.logs.push(entries)?;
+        outcome.logs.push(log_of(alloc, log)?)?;
     }
     outcome.carriers.extend_from_slice(carriers)?;
     Ok(outcome)
 }
 
-const PLACED: &[Entry] = &[
+const PLACED: &[Entry<Reports>] = &[
     Entry::Alloc {
         name: 1,
         place: Place {
@@ -226,7 +236,7 @@ const PLACED: &[Entry] = &[
     Entry::Idle,
 ];
 
-const FREED: &[Entry] = &[
+const FREED: &[Entry<Reports>] = &[
     Entry::Take { name: 5 },
     Entry::FreeQueued { name: 5, to: 1 },
     Entry::FreeSkipped { name: 5 },
@@ -246,7 +256,7 @@ const CARRIER: CarrierLine = CarrierLine {
 
 #[test]
 fn each_log_stands_after_the_number_of_its_scheduler(rt: HostRuntime) -> Result<(), Fail> {
-    let cases: [(&[&[Entry]], &[CarrierLine], &str); 3] = [
+    let cases: [(&[&[Entry<Reports>]], &[CarrierLine], &str); 3] = [
         (
             &[PLACED, FREED],
             &[CARRIER],
@@ -279,7 +289,7 @@ fn each_log_stands_after_the_number_of_its_scheduler(rt: HostRuntime) -> Result<
     Ok(())
 }
 
-const GENERATED: &[Entry] = &[
+const GENERATED: &[Entry<Reports>] = &[
     Entry::Take { name: 5 },
     Entry::Alloc {
         name: 1,
@@ -308,7 +318,7 @@ const GENERATED: &[Entry] = &[
 
 #[test]
 fn the_text_of_a_generated_trace_counts_what_was_done(rt: HostRuntime) -> Result<(), Fail> {
-    let cases: [(&[&[Entry]], &str); 3] = [
+    let cases: [(&[&[Entry<Reports>]], &str); 3] = [
         (
             &[PLACED, GENERATED],
             "generated 2147483647 524288\n\

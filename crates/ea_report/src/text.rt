@@ -6,17 +6,17 @@ use crate::carriers::{put_carriers, put_totals};
 use crate::entries::put_log;
 use crate::lines::Word::Sum;
 use crate::lines::put_line;
-use ea_model::{Entry, List, OutOfMemory, Outcome};
+use ea_model::{List, Log, OutOfMemory, Outcome};
 use std::alloc::Global;
 
 /// Adds the logs, each after a line with the number of its scheduler.
-fn put_logs(text: &mut List<u8>, logs: &[List<Entry>]) -> Result<(), OutOfMemory>
+fn put_logs(text: &mut List<u8>, logs: &[Log]) -> Result<(), OutOfMemory>
     ensures { OnOk result
         (text.new.items ≡ text.old.items ++ logs_text 1 (map (λ log. log.items) logs.now)) }
 {
     for (index, log) in logs.iter().enumerate() {
         put_line(text, "scheduler", &[Sum(index as u64 + 1)])?;
-        put_log(text, log.as_slice())?;
+        put_log(text, log)?;
     }
     Ok(())
 }

@@ -1,5 +1,6 @@
-use Rattle.std.proofs.Common.{◌∷◌, [], ◌++◌, append-nil, ◌∙◌, sym, ap, codes, decimal, rules}
-use Rattle.ea_report.specs.Text.{entry_text, fail_words, report_text}
+use Rattle.std.proofs.Common.{◌∷◌, [], ◌∙◌, sym, ap, codes, decimal, rules}
+use Rattle.ea_model.specs.Entries.{informed, told}
+use Rattle.ea_report.specs.Text.{entry_text, fail_words}
 use Rattle.ea_report.proofs.Spaced.{line_alone}
 use Rattle.ea_report.proofs.entries.put_entry.Goals as goal
 
@@ -8,7 +9,7 @@ returns-in-AllocFail c =
     let it = c.in-AllocFail in
     search rules
     ∙ sym (line_alone (codes "alloc") (decimal it.name ∷ fail_words it.need it.looked it.why))
-    ∙ sym (ap entry_text it.is)
+    ∙ sym (ap (λ e. entry_text (told c.args.reports.now e)) it.is)
 
 pub returns-in-ReallocFail : goal.returns-in-ReallocFail
 returns-in-ReallocFail c =
@@ -16,7 +17,7 @@ returns-in-ReallocFail c =
     search rules
     ∙ sym (line_alone (codes "realloc")
     (decimal it.old ∷ decimal it.fresh ∷ fail_words it.need it.looked it.why))
-    ∙ sym (ap entry_text it.is)
+    ∙ sym (ap (λ e. entry_text (told c.args.reports.now e)) it.is)
 
 pub returns-in-ReallocMoved : goal.returns-in-ReallocMoved
 returns-in-ReallocMoved c =
@@ -25,7 +26,7 @@ returns-in-ReallocMoved c =
     ∙ sym (line_alone (codes "realloc")
     (decimal it.old ∷ decimal it.fresh ∷ decimal it.place.carrier ∷ decimal it.place.offset
     ∷ decimal it.place.size ∷ codes "moved" ∷ codes "done" ∷ []))
-    ∙ sym (ap entry_text it.is)
+    ∙ sym (ap (λ e. entry_text (told c.args.reports.now e)) it.is)
 
 pub returns-in-ReallocQueued : goal.returns-in-ReallocQueued
 returns-in-ReallocQueued c =
@@ -34,13 +35,9 @@ returns-in-ReallocQueued c =
     ∙ sym (line_alone (codes "realloc")
     (decimal it.old ∷ decimal it.fresh ∷ decimal it.place.carrier ∷ decimal it.place.offset
     ∷ decimal it.place.size ∷ codes "moved" ∷ codes "queued" ∷ decimal it.to ∷ []))
-    ∙ sym (ap entry_text it.is)
+    ∙ sym (ap (λ e. entry_text (told c.args.reports.now e)) it.is)
 
 pub returns-in-Info : goal.returns-in-Info
 returns-in-Info c =
-    let it = c.in-Info in
-    c.put_report-in-Info.ensures.bytes
-    ∙ ap (λ l. report_text (codes "mbcs") it.mbcs ++ l) (c.put_report.ensures.bytes
-    ∙ ap (λ l. report_text (codes "sbcs") it.sbcs ++ l) c.requires
-    ∙ append-nil (report_text (codes "sbcs") it.sbcs))
-    ∙ sym (ap entry_text it.is)
+    c.put_info.ensures ∙ ap (λ r. entry_text (informed r)) (sym c.reports_at.ensures)
+    ∙ sym (ap (λ e. entry_text (told c.args.reports.now e)) c.in-Info.is)
