@@ -1,5 +1,6 @@
 -- What the words of a line stand for.
-use Rattle.std.specs.Prelude.{ℕ, List, [], ◌∷◌, ◌++◌, decimal}
+use Rattle.std.specs.Prelude.{ℕ, ◌+◌, List, [], ◌∷◌, ◌++◌, codes, decimal}
+use Rattle.ea_report.specs.Text.{line}
 use Rattle.ea_report.specs.declared.lines.Word as code
 use Rattle.ea_report.specs.declared.lines.Word.TheVariants.{Text, Number, Sum}
 
@@ -13,3 +14,9 @@ word_text (Sum n) = decimal n
 abbrev pub spaced : List (List ℕ) → List ℕ → List ℕ
 spaced [] rest = rest
 spaced (w ∷ ws) rest = 32 ∷ w ++ spaced ws rest
+
+-- texts of logs, of schedulers from that number on, each after a line with its number
+abbrev pub headed_texts : ℕ → List (List ℕ) → List ℕ
+headed_texts i [] = []
+headed_texts i (text ∷ texts) = line (codes "scheduler") (decimal i ∷ []) ++ text
+    ++ headed_texts (i + 1) texts

@@ -2,6 +2,7 @@
 //! totals; or, of a generated trace, how many entries each log has of each kind, and the totals.
 #![tactic(auto)]
 
+mod beside;
 mod carriers;
 mod entries;
 mod lines;
@@ -11,6 +12,7 @@ mod tails;
 mod tests;
 mod text;
 
+pub use beside::print_beside;
 pub use lines::{Word, put_line};
 pub use summary::print_summary;
 pub use text::{print, put_outcome};

@@ -1,7 +1,7 @@
 //! The line of each kind of entry, the words of carriers, and whole texts of both forms.
 use crate::carriers::put_carrier;
 use crate::entries::put_log;
-use crate::{print, print_summary};
+use crate::{print, print_beside, print_summary};
 use ea_model::{
     CarrierLine, Entry, Kind, List, Log, NoCarrier, OutOfMemory, Outcome, Place, Report, Reports,
     Standing, Totals, Triple,
@@ -286,6 +286,23 @@ fn each_log_stands_after_the_number_of_its_scheduler(rt: HostRuntime) -> Result<
         let printed = print(rt.alloc(), &outcome)?;
         assert_eq!(rt; printed.as_slice(), text.as_bytes());
     }
+    Ok(())
+}
+
+#[test]
+fn texts_that_are_made_side_by_side_stand_in_the_order_of_schedulers(
+    rt: HostRuntime,
+) -> Result<(), Fail> {
+    let idle = Vec::from_elem(rt.alloc(), Entry::Idle, 9_000)?;
+    let outcome = outcome(rt.alloc(), &[PLACED, idle.as_slice(), FREED], &[CARRIER])?;
+    let printed = print_beside(&rt, rt.alloc(), &outcome)?;
+    let first = "scheduler 1\nalloc 1 1 8 14\nidle\nscheduler 2\nidle\n";
+    let last = "idle\nscheduler 3\ntake 5 got\nfree 5 queued 1\nfree 5 skipped\n\
+        carrier 1 multi owner 1 employed 2 base 0 pages 32 allocated 42 largest 16300\n\
+        total carriers 1 units 16384 live 14 queued 28 free 16334 header 8\n";
+    assert!(rt; printed.as_slice().starts_with(first.as_bytes()));
+    assert!(rt; printed.as_slice().ends_with(last.as_bytes()));
+    assert_eq!(rt; printed.len(), first.len() + 8_998 * 5 + last.len());
     Ok(())
 }
 

@@ -17,7 +17,7 @@ use ea_frame::{Fault, Part};
 use ea_gen::make_trace;
 use ea_given::run_given;
 use ea_model::{Config, Letter, List, Mode, OutOfMemory, Outcome, Trace};
-use ea_report::{print, print_summary};
+use ea_report::{print_beside, print_summary};
 use ea_table::{OpenGate, run_threads};
 use ea_trace::read_trace;
 use std::alloc::Global;
@@ -37,7 +37,7 @@ impl<'r, R: Threads + Sync> Part for Traces<'r, R> {
     fn text_of(&self, alloc: Global, config: Config, input: &[u8]) -> Result<List<u8>, Fault> {
         let trace = read_trace(alloc, input, config.schedulers)?;
         let outcome = run_trace(self.rt, alloc, config, &trace)?;
-        Ok(print_run(alloc, &trace.mode, &outcome)?)
+        Ok(print_run(self.rt, alloc, &trace.mode, &outcome)?)
     }
 }
 
@@ -80,11 +80,16 @@ fn run_generated(
 }
 
 /// The text of the outcome of a trace of this mode.
-fn print_run(alloc: Global, mode: &Mode, outcome: &Outcome) -> Result<List<u8>, OutOfMemory>
+fn print_run<R: Threads + Sync>(
+    rt: &R,
+    alloc: Global,
+    mode: &Mode,
+    outcome: &Outcome,
+) -> Result<List<u8>, OutOfMemory>
     ensures { IfOk result (λ text. text.items ≡ text_by mode.now outcome.now) }
 {
     match mode {
-        Mode::Threads | Mode::Schedule { .. } => print(alloc, outcome),
+        Mode::Threads | Mode::Schedule { .. } => print_beside(rt, alloc, outcome),
         Mode::Generated { seed, count } => print_summary(alloc, *seed, *count, outcome),
     }
 }
