@@ -119,7 +119,7 @@ impl Seen {
     }
 
     /// Takes the line with this number, which says that operation, or says why it is refused.
-    pub fn take_operation(&mut self, number: u32, op: Op) -> Result<Option<TraceFault>, OutOfMemory>
+    fn take_operation(&mut self, number: u32, op: Op) -> Result<Option<TraceFault>, OutOfMemory>
         requires { HasRanges op }
         ensures { IfOk result (λ refused. (n : ℕ) (earlier : Earlier) → Knows n earlier self.old
             → length earlier + 1 ≡ number
