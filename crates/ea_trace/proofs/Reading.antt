@@ -1,10 +1,13 @@
 -- A line that passes each test, and the trace that the lines make.
-use Rattle.std.proofs.Common.{◌≡◌, ℕ, Bool, true, false, if◌then◌else◌, List, [], ◌∷◌, Option, Some}
+use Rattle.std.proofs.Common.{◌≡◌, ◌≢◌, ℕ, Bool, true, false, if◌then◌else◌, List, [], ◌∷◌, Option, Some}
 use Rattle.std.proofs.Common.{None, ◌+◌, length, map, refl, ap}
+use Rattle.std.specs.Borrow.{Bor}
 use Rattle.std.specs.Prelude.{not}
 use Rattle.std.specs.List.{find, AllByRecursion}
 use Rattle.ea_model.specs.Lists.{Items}
 use Rattle.ea_model.specs.Trace.{greatest_of, listed, plain, plain_mode}
+use Rattle.ea_model.specs.Words.{words}
+use Rattle.ea_model.specs.declared.operations.Op.{Op}
 use Rattle.ea_model.specs.declared.settings.Letter.{Letter}
 use Rattle.ea_model.specs.declared.trace.Mode.{Mode}
 use Rattle.ea_model.specs.declared.trace.Trace.{Trace}
@@ -13,10 +16,12 @@ use Rattle.ea_model.specs.declared.trace.Turns as model
 use Rattle.ea_trace.specs.Language.{Earlier, is_bad_scheduler, is_many, is_not_held, is_reused}
 use Rattle.ea_trace.specs.Language.{may_stand, operations, refusal, sections, stops_after}
 use Rattle.ea_trace.specs.Language.{stage_after, texts_after, trace_from, turns_after, with_turns}
-use Rattle.ea_trace.specs.Lines.{Said}
+use Rattle.ea_trace.specs.Lines.{Said, turns_in}
+use Rattle.ea_trace.specs.Says.{said, said_turns}
 use Rattle.ea_trace.specs.TurnLines.{Adds}
 use Rattle.ea_trace.specs.declared.fault.TraceFault.{TraceFault}
 use Rattle.ea_trace.specs.declared.fault.TraceFault.TheVariants as fault
+use Rattle.ea_trace.specs.declared.lines.Line.{Line}
 use Rattle.ea_trace.specs.declared.lines.Line.TheVariants as says
 use Rattle.ea_trace.specs.declared.stages.Stage.{Stage}
 use Rattle.ea_trace.specs.declared.stages.Stage.TheVariants as at
@@ -39,6 +44,27 @@ pub lacking : (n : ℕ) (earlier : Earlier) (line : Said) (number : ℕ)
     → is_not_held earlier line ≡ true → length earlier + 1 ≡ number
     → Some (fault.NotHeld number) ≡ refusal n earlier line
 lacking n earlier line number a b c d e same = rw (a, b, c, d, e, same) refl
+
+-- only an operation makes a name or needs one
+turns_without : (o : Option (List model.Turns)) (earlier : Earlier)
+    → (is_reused earlier (said_turns o) ≡ false) × (is_not_held earlier (said_turns o) ≡ false)
+turns_without None earlier = (refl, refl)
+turns_without (Some turns) earlier = (refl, refl)
+
+pub without_names : (line : Line (Bor (List ℕ))) (earlier : Earlier)
+    → ((op : Op) → line ≢ says.Operation op)
+    → (is_reused earlier (said line) ≡ false) × (is_not_held earlier (said line) ≡ false)
+without_names says.Skipped earlier h = (refl, refl)
+without_names (says.Letter letter) earlier h = (refl, refl)
+without_names (says.Section number) earlier h = (refl, refl)
+without_names (says.Operation op) earlier h = absurd (h op refl)
+without_names (says.Stop stop) earlier h = (refl, refl)
+without_names says.Threads earlier h = (refl, refl)
+without_names says.Schedule earlier h = (refl, refl)
+without_names (says.Turns text) earlier h = turns_without (turns_in (words text.now)) earlier
+without_names (says.Generate seed count) earlier h = (refl, refl)
+without_names says.End earlier h = (refl, refl)
+without_names says.Unreadable earlier h = (refl, refl)
 
 -- tests that agree on the elements find the same one
 pub find_same : (P : TakeLine → Type 0) (p q : TakeLine → Bool) → ((t : TakeLine) → P t → p t ≡ q t)

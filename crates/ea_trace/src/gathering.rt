@@ -8,11 +8,13 @@ ghost use Rattle.ea_trace.specs.Language;
 ghost use Rattle.ea_trace.specs.Language.{Earlier, Gives, and_last, at_end, is_unaddressed};
 ghost use Rattle.ea_trace.specs.Language.{letter_after, mode_after, stage_after, takes_in};
 ghost use Rattle.ea_trace.specs.Language.{turns_after};
-ghost use Rattle.ea_trace.specs.Ranges.{InRange, IsNamed};
+ghost use Rattle.ea_trace.specs.Ranges.{HasRanges, InRange, IsNamed};
 ghost use Rattle.ea_trace.specs.Says.{said};
 ghost use Rattle.ea_trace.specs.TurnLines.{tally_in};
+ghost use Rattle.ea_trace.specs.declared.lines.Line.TheVariants.{Operation};
 
 use crate::fault::TraceFault;
+use crate::judging::gives_outside;
 use crate::lines::Line;
 use crate::names::Names;
 use crate::seen::Seen;
@@ -100,6 +102,9 @@ impl Seen {
             → length earlier + 1 ≡ number
             → Judged n earlier (said line.entry) self.new refused) }
     {
+        if let Line::Operation { op } = line {
+            return self.take_operation(number, op);
+        }
         if !self.admits(line, tally) {
             return Ok(Some(TraceFault::Syntax { line: number }));
         }
@@ -109,13 +114,33 @@ impl Seen {
         if self.is_full(line, tally) {
             return Ok(Some(TraceFault::TooMany { line: number }));
         }
-        if self.reuses(line) {
+        self.add(alloc, number, line, tally)?;
+        Ok(None)
+    }
+
+    /// Takes the line with this number, which says that operation, or says why it is refused.
+    fn take_operation(&mut self, number: u32, op: Op) -> Result<Option<TraceFault>, OutOfMemory>
+        requires { HasRanges op }
+        ensures { IfOk result (λ refused. (n : ℕ) (earlier : Earlier) → Knows n earlier self.old
+            → length earlier + 1 ≡ number
+            → Judged n earlier (Operation op) self.new refused) }
+    {
+        if !self.admits_operation(op) {
+            return Ok(Some(TraceFault::Syntax { line: number }));
+        }
+        if gives_outside(self.schedulers, op) {
+            return Ok(Some(TraceFault::BadScheduler { line: number }));
+        }
+        if self.is_full_for(op) {
+            return Ok(Some(TraceFault::TooMany { line: number }));
+        }
+        if self.reuses(op) {
             return Ok(Some(TraceFault::NameReused { line: number }));
         }
-        if self.lacks(line) {
+        if self.lacks(op) {
             return Ok(Some(TraceFault::NotHeld { line: number }));
         }
-        self.add(alloc, number, line, tally)?;
+        self.note(number, op)?;
         Ok(None)
     }
 

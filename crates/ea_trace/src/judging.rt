@@ -1,13 +1,14 @@
 //! Whether a line may follow those that were taken.
-ghost use Rattle.std.specs.Prelude.{◌≡◌, ◌+◌, ◌<◌, ℕ, true, false};
+ghost use Rattle.std.specs.Prelude.{◌≡◌, ◌+◌, ◌<◌, ℕ, true, false, ◌&&◌, nat_lt};
 ghost use Rattle.ea_model.specs.Trace;
 ghost use Rattle.ea_trace.specs.Knows.{HasRoom, Knows, Stands};
-ghost use Rattle.ea_trace.specs.Language.{Earlier, in_opening, is_bad_scheduler, is_held, is_many};
-ghost use Rattle.ea_trace.specs.Language.{is_not_held, is_reused, may_stand, no_stops};
+ghost use Rattle.ea_trace.specs.Language.{Earlier, in_opening, is_bad_scheduler, is_many};
+ghost use Rattle.ea_trace.specs.Language.{may_stand, no_stops};
 ghost use Rattle.ea_trace.specs.Language as language;
-ghost use Rattle.ea_trace.specs.Ranges.{InRange};
+ghost use Rattle.ea_trace.specs.Ranges.{HasRanges, InRange};
 ghost use Rattle.ea_trace.specs.Says.{said};
 ghost use Rattle.ea_trace.specs.TurnLines.{tally_in};
+ghost use Rattle.ea_trace.specs.declared.lines.Line.TheVariants.{Operation};
 
 use crate::lines::Line;
 use crate::seen::Seen;
@@ -23,6 +24,16 @@ pub fn tries_of(op: Op) -> u32
     match op {
         Op::Take { tries, .. } => tries,
         _ => 0,
+    }
+}
+
+/// Whether an operation gives a name to none of the schedulers 1 to `schedulers`.
+pub fn gives_outside(schedulers: u32, op: Op) -> bool
+    ensures { result ≡ language.gives_outside schedulers op }
+{
+    match op {
+        Op::Give { to, .. } => is_nobody(schedulers, to),
+        _ => false,
     }
 }
 
@@ -63,14 +74,19 @@ impl Seen {
             Line::Section { number } => {
                 self.section >= self.schedulers || number != self.section + 1
             }
-            Line::Operation {
-                op: Op::Give { to, .. },
-            } => is_nobody(self.schedulers, to),
+            Line::Operation { op } => gives_outside(self.schedulers, op),
             Line::Stop { stop } => self.stops_badly(stop.scheduler),
             Line::Threads | Line::Schedule => self.section < self.schedulers,
             Line::Turns { .. } => matches!(tally, Some(Tally { outside: true, .. })),
             _ => false,
         }
+    }
+
+    /// Whether a section has begun, and no stop was said.
+    fn is_in_section(&self) -> bool
+        ensures { result ≡ (nat_lt 0 self.now.section && no_stops self.now.stops.items) }
+    {
+        self.section > 0 && has_none(self.stops.as_slice())
     }
 
     /// Whether a line has its place among the sections.
@@ -79,7 +95,7 @@ impl Seen {
     {
         match line {
             Line::Section { .. } | Line::Stop { .. } | Line::Threads | Line::Schedule => true,
-            Line::Operation { .. } => self.section > 0 && has_none(self.stops.as_slice()),
+            Line::Operation { .. } => self.is_in_section(),
             Line::Generate { .. } => self.section == 0,
             _ => false,
         }
@@ -103,6 +119,27 @@ impl Seen {
         }
     }
 
+    /// Whether an operation may stand here.
+    pub fn admits_operation(&self, op: Op) -> bool
+        ensures exact { result ≡
+            may_stand self.now.schedulers self.now.stage self.now.section self.now.stops.items
+            (Operation op) }
+        ensures stands { result ≡ true → Stands self.now.schedulers self.now.section (Operation op) }
+    {
+        matches!(self.stage, Stage::Opening)
+            && (self.is_in_section() || gives_outside(self.schedulers, op))
+    }
+
+    /// Whether with this operation they, or the tries, are too many.
+    pub fn is_full_for(&self, op: Op) -> bool
+        requires { HasRanges op }
+        ensures many { (n : ℕ) (earlier : Earlier) → Knows n earlier self.now
+            → result ≡ is_many n earlier (Operation op) }
+        ensures room { result ≡ false → HasRoom self.now (Operation op) }
+    {
+        self.count >= MAX_OPS || self.tries + tries_of(op) > MAX_ALL_TRIES
+    }
+
     /// Whether with this line the operations, the tries or the turns are too many.
     pub fn is_full(&self, line: Line<&[u8]>, tally: Option<Tally>) -> bool
         requires range { InRange (said line) }
@@ -112,9 +149,7 @@ impl Seen {
         ensures room { result ≡ false → HasRoom self.now (said line.entry) }
     {
         match line {
-            Line::Operation { op } => {
-                self.count >= MAX_OPS || self.tries + tries_of(op) > MAX_ALL_TRIES
-            }
+            Line::Operation { op } => self.is_full_for(op),
             Line::Turns { .. } => match tally {
                 Some(turns) => self.turn_count.saturating_add(turns.count) > MAX_TURNS,
                 None => false,
@@ -126,46 +161,33 @@ impl Seen {
         }
     }
 
-    /// Whether a line makes or gives a name again.
-    pub fn reuses(&self, line: Line<&[u8]>) -> bool
-        requires range { InRange (said line) }
-        requires stands { Stands self.now.schedulers self.now.section line }
-        requires good { is_bad_scheduler self.now.schedulers self.now.section self.now.stops.items
-            (said line) ≡ false }
+    /// Whether an operation makes or gives a name again.
+    pub fn reuses(&self, op: Op) -> bool
+        requires range { HasRanges op }
+        requires begun { 0 < self.now.section }
         ensures { (n : ℕ) (earlier : Earlier) → Knows n earlier self.now
-            → result ≡ is_reused earlier (said line.entry) }
+            → result ≡ language.reuses earlier op }
     {
-        match line {
-            Line::Operation {
-                op: Op::Alloc { name, .. },
-            } => self.names.is_made(name),
-            Line::Operation {
-                op: Op::Realloc { old, fresh, .. },
-            } => self.names.is_made(fresh)
-                || (old == fresh && self.names.is_held(old, self.section)),
-            Line::Operation {
-                op: Op::Give { name, .. },
-            } => self.names.is_given(name),
+        match op {
+            Op::Alloc { name, .. } => self.names.is_made(name),
+            Op::Realloc { old, fresh, .. } => {
+                self.names.is_made(fresh) || (old == fresh && self.names.is_held(old, self.section))
+            }
+            Op::Give { name, .. } => self.names.is_given(name),
             _ => false,
         }
     }
 
-    /// Whether a line needs a name that its section doesn't hold.
-    pub fn lacks(&self, line: Line<&[u8]>) -> bool
-        requires range { InRange (said line) }
-        requires stands { Stands self.now.schedulers self.now.section line }
-        requires good { is_bad_scheduler self.now.schedulers self.now.section self.now.stops.items
-            (said line) ≡ false }
+    /// Whether an operation needs a name that its section doesn't hold.
+    pub fn lacks(&self, op: Op) -> bool
+        requires range { HasRanges op }
+        requires begun { 0 < self.now.section }
         ensures { (n : ℕ) (earlier : Earlier) → Knows n earlier self.now
-            → result ≡ is_not_held earlier (said line.entry) }
+            → result ≡ language.lacks earlier op }
     {
-        match line {
-            Line::Operation {
-                op: Op::Free { name } | Op::Give { name, .. },
-            } => !self.names.is_held(name, self.section),
-            Line::Operation {
-                op: Op::Realloc { old, .. },
-            } => !self.names.is_held(old, self.section),
+        match op {
+            Op::Free { name } | Op::Give { name, .. } => !self.names.is_held(name, self.section),
+            Op::Realloc { old, .. } => !self.names.is_held(old, self.section),
             _ => false,
         }
     }

@@ -84,7 +84,7 @@ impl Seen {
     }
 
     /// Notes an operation.
-    fn note(&mut self, number: u32, op: Op) -> Result<(), OutOfMemory>
+    pub fn note(&mut self, number: u32, op: Op) -> Result<(), OutOfMemory>
         requires range { HasRanges op }
         requires good { gives_outside self.old.schedulers op ≡ false }
         requires begun { 0 < self.old.section }
