@@ -2,10 +2,10 @@
 ghost use Rattle.std.specs.Prelude.{◌≡◌, ◌⊎◌, ℕ, ◌+◌, ◌-◌, ◌^◌, ◌<◌, ◌≤◌, ◌↔◌, [], All, Some};
 ghost use Rattle.std.specs.Prelude.{IsNone, IfSome, IfOk, length};
 ghost use Rattle.ea_model.specs.declared.units.TheConstants.{NUMBERS};
-ghost use Rattle.ea_model.specs.Region.{runs_of, lowest_run, longest, with_segment, cut_from, Laid};
+ghost use Rattle.ea_model.specs.Region.{runs_of, lowest_run, with_segment, cut_from, Laid};
 ghost use Rattle.ea_model.specs.Region.{AreFree, IsTail};
 
-use crate::walks::{index_of, longest_run, lowest_start};
+use crate::walks::{index_of, lowest_start};
 use ea_model::keyed::enter_within;
 use ea_model::{NUMBERS, OutOfMemory, Segment};
 use std::alloc::Global;
@@ -110,13 +110,5 @@ impl Region {
         } else {
             self.taken[index].pages = segment.pages - pages;
         }
-    }
-
-    /// The pages of the longest free run, or 0.
-    pub fn longest(&self) -> u32
-        ensures longest { result ≡ longest (runs_of self.now) }
-        ensures laid { Laid self.now.first self.now.end self.now.taken }
-    {
-        longest_run(self.first, self.end, &self.taken)
     }
 }

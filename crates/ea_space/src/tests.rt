@@ -30,13 +30,11 @@ fn the_lowest_run_that_is_long_enough_is_taken(rt: HostRuntime) -> Result<(), Fa
     assert_eq!(rt; take(&mut region, 40), Some(128));
     assert_eq!(rt; take(&mut region, 20), Some(168));
     region.give_back(128, 40);
-    assert_eq!(rt; region.longest(), 40);
 
     // The free pages are 128 to 167 and 188 to 227, two runs of 40.
     assert_eq!(rt; take(&mut region, 41), None);
     assert_eq!(rt; take(&mut region, 40), Some(128));
     assert_eq!(rt; take(&mut region, 40), Some(188));
-    assert_eq!(rt; region.longest(), 0);
     assert_eq!(rt; take(&mut region, 1), None);
     Ok(())
 }
@@ -47,11 +45,12 @@ fn pages_given_back_join_their_neighbours(rt: HostRuntime) -> Result<(), Fail> {
     assert_eq!(rt; take(&mut region, 10), Some(128));
     assert_eq!(rt; take(&mut region, 10), Some(138));
     region.give_back(138, 10);
-    assert_eq!(rt; region.longest(), 20);
+    assert_eq!(rt; region.find(21), None);
+    assert_eq!(rt; region.find(20), Some(138));
 
     // The tail of the first segment joins the 20 pages after it.
     region.give_back(130, 8);
-    assert_eq!(rt; region.longest(), 28);
+    assert_eq!(rt; region.find(29), None);
     assert_eq!(rt; take(&mut region, 28), Some(130));
     Ok(())
 }

@@ -1,7 +1,7 @@
 //! Walks over the taken segments, by rising base.
-ghost use Rattle.std.specs.Prelude.{◌≡◌, ◌<◌, ◌≤◌, length, max, is_some};
+ghost use Rattle.std.specs.Prelude.{◌≡◌, ◌<◌, ◌≤◌, length, is_some};
 ghost use Rattle.std.specs.List.{position_or_len};
-ghost use Rattle.ea_model.specs.Region.{stretch, runs, lowest_run, longest, covers, Laid};
+ghost use Rattle.ea_model.specs.Region.{stretch, runs, lowest_run, covers, Laid};
 
 use ea_model::Segment;
 
@@ -30,20 +30,6 @@ pub fn lowest_start(pages: u32, first: u32, end: u32, taken: &[Segment]) -> Opti
     } else {
         None
     }
-}
-
-/// The pages of the longest run, or 0.
-pub fn longest_run(first: u32, end: u32, taken: &[Segment]) -> u32
-    requires { Laid first end taken.now }
-    ensures { result ≡ longest (runs first end taken.now) }
-{
-    let mut at = first;
-    let mut most = 0;
-    for segment in taken {
-        most = most.max(segment.base - at);
-        at = segment.base + segment.pages;
-    }
-    most.max(end - at)
 }
 
 /// The index of the first segment that covers the page.
