@@ -5,7 +5,7 @@ ghost use Rattle.ea_model.specs.declared.units.TheConstants.{MAX_UNITS};
 ghost use Rattle.ea_mbc.specs.Coding.{GapCoded, Told, Laid, Cleared};
 
 use ea_model::BlockAt;
-use ea_tags::{Header, UnitArray};
+use ea_tags::{Header, PagedArray, UnitArray};
 
 /// Writes the header and the size of the gap from `from` up to `to`, if there is one.
 pub fn put_gap(tags: &mut UnitArray, end: u32, from: u32, to: u32)
@@ -58,7 +58,7 @@ fn tell(tags: &mut UnitArray, end: u32, stop: u32, prev_free: bool)
 /// `prev_free` says whether a gap ends directly before the block.
 pub fn lay(
     tags: &mut UnitArray,
-    names: &mut Vec<u32>,
+    names: &mut PagedArray,
     end: u32,
     block: BlockAt,
     stop: u32,
@@ -69,9 +69,9 @@ pub fn lay(
     requires whole { block.offset + block.size < stop → block.offset + block.size + 2 ≤ stop }
     requires within { stop ≤ end }
     requires long { length tags.old ≡ end }
-    requires half { end ≤ 2 * length names.old.items }
+    requires half { end ≤ 2 * length names.old }
     requires few { end ≤ MAX_UNITS }
-    ensures { Laid tags.old tags.new names.old.items names.new.items end
+    ensures { Laid tags.old tags.new names.old names.new end
         block.offset block.size stop block.name prev_free }
 {
     let behind = block.offset + block.size;
@@ -84,14 +84,14 @@ pub fn lay(
     tags.set_header(block.offset, header);
     put_gap(tags, end, behind, stop);
     tell(tags, end, stop, behind < stop);
-    names[(block.offset / 2) as usize] = block.name;
+    names.set(block.offset / 2, block.name);
 }
 
 /// Makes the units from `start` up to `stop`, where the next block or the end is, a gap, with the
 /// block at the offset.
 pub fn clear(
     tags: &mut UnitArray,
-    names: &mut Vec<u32>,
+    names: &mut PagedArray,
     end: u32,
     start: u32,
     offset: u32,
@@ -101,11 +101,11 @@ pub fn clear(
     requires whole { start + 2 ≤ stop }
     requires within { stop ≤ end }
     requires long { length tags.old ≡ end }
-    requires half { end ≤ 2 * length names.old.items }
+    requires half { end ≤ 2 * length names.old }
     requires few { end ≤ MAX_UNITS }
-    ensures { Cleared tags.old tags.new names.old.items names.new.items end start offset stop }
+    ensures { Cleared tags.old tags.new names.old names.new end start offset stop }
 {
     put_gap(tags, end, start, stop);
     tell(tags, end, stop, true);
-    names[(offset / 2) as usize] = 0;
+    names.set(offset / 2, 0);
 }

@@ -15,7 +15,7 @@ use crate::coding::{clear, lay, put_gap};
 use crate::index::GapIndex;
 use crate::parts::Part;
 use ea_model::{BlockAt, Gap, HEADER_UNITS, Inner, OutOfMemory};
-use ea_tags::UnitArray;
+use ea_tags::{PagedArray, UnitArray};
 use std::alloc::Global;
 use std::marker::Model;
 
@@ -26,7 +26,7 @@ use std::marker::Model;
 #[derive(Drop)]
 pub struct CarrierUnits {
     tags: UnitArray,
-    names: Vec<u32>,
+    names: PagedArray,
     index: GapIndex,
     end: u32,
 }
@@ -41,13 +41,13 @@ impl Model for CarrierUnits {
 
     ghost Value = { Layout };
 
-    ghost view = { λ u. record { end = u.end; blocks = blocks_of u.tags u.names.items u.end } };
+    ghost view = { λ u. record { end = u.end; blocks = blocks_of u.tags u.names u.end } };
 
     ghost invariant = { λ u. record {
-      coded : IsCoded u.tags u.names.items u.end (blocks_of u.tags u.names.items u.end)
+      coded : IsCoded u.tags u.names u.end (blocks_of u.tags u.names u.end)
           × (u.end ≤ MAX_UNITS);
       indexed : Indexed u.end u.index
-          (gaps HEADER_UNITS u.end (blocks_of u.tags u.names.items u.end));
+          (gaps HEADER_UNITS u.end (blocks_of u.tags u.names u.end));
     } };
 }
 
@@ -61,7 +61,7 @@ impl CarrierUnits {
     {
         let mut tags = UnitArray::new(alloc, end)?;
         put_gap(&mut tags, end, HEADER_UNITS, end);
-        let names = vec![in alloc; 0; (end / 2) as usize]?;
+        let names = PagedArray::new(alloc, end / 2)?;
         let mut index = GapIndex::new(alloc, inner, end)?;
         index.put(HEADER_UNITS, end - HEADER_UNITS);
         Ok(CarrierUnits {
@@ -171,7 +171,7 @@ impl CarrierUnits {
         if offset % 2 != 0 {
             return false;
         }
-        if self.names[(offset / 2) as usize] != 0 {
+        if self.names.get(offset / 2) != 0 {
             return true;
         }
         self.has_header(offset)
@@ -183,7 +183,7 @@ impl CarrierUnits {
         ensures { block_at self.now.blocks offset ≡ Some result }
     {
         BlockAt {
-            name: self.names[(offset / 2) as usize],
+            name: self.names.get(offset / 2),
             offset,
             size: self.tags.header(offset).size,
         }
@@ -347,6 +347,6 @@ impl CarrierUnits {
               size = size_of (block_at self.old.blocks offset);
             }) offset self.old.blocks }
     {
-        self.names[(offset / 2) as usize] = name;
+        self.names.set(offset / 2, name);
     }
 }

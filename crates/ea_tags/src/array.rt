@@ -5,24 +5,24 @@ ghost use Rattle.ea_tags.specs.Words.{code};
 ghost use Rattle.ea_tags.specs.declared.header.TheConstants.{MAX_SIZE};
 
 use crate::header::{Header, decode, encode};
+use crate::paged::PagedArray;
 use ea_model::OutOfMemory;
 use std::alloc::Global;
 use std::marker::Model;
 
-/// The units of a carrier. Contracts see them as the list of their words.
+/// The units of a carrier. Contracts see them as the list of their words. No memory is written for
+/// units whose words are not set.
 #[derive(Drop)]
 pub struct UnitArray {
-    words: Vec<u32>,
+    words: PagedArray,
 }
 
 impl Model for UnitArray {
-    ghost use Rattle.std.specs.Prelude.{ℕ, ◌^◌, ◌<◌, List, vec_len};
+    ghost use Rattle.std.specs.Prelude.{ℕ, List};
 
     ghost Value = { List ℕ };
 
-    ghost view = { λ a. a.words.items };
-
-    ghost invariant = { λ a. vec_len a.words < 2 ^ 32 };
+    ghost view = { λ a. a.words };
 }
 
 impl UnitArray {
@@ -31,7 +31,7 @@ impl UnitArray {
         ensures { IfOk result (λ a. a ≡ replicate units 0) }
     {
         Ok(UnitArray {
-            words: vec![in alloc; 0; units as usize]?,
+            words: PagedArray::new(alloc, units)?,
         })
     }
 
@@ -39,7 +39,7 @@ impl UnitArray {
     pub fn len(&self) -> u32
         ensures { result ≡ length self.now }
     {
-        self.words.len() as u32
+        self.words.len()
     }
 
     /// The header in the unit at `at`.
@@ -48,7 +48,7 @@ impl UnitArray {
         ensures word { code result ≡ slice_index self.now at }
         ensures small { result.size ≤ MAX_SIZE }
     {
-        decode(self.words[at as usize])
+        decode(self.words.get(at))
     }
 
     /// Puts the word of a header into the unit at `at`.
@@ -57,7 +57,7 @@ impl UnitArray {
         requires small { header.size ≤ MAX_SIZE }
         ensures { self.new ≡ slice_set self.old at (code header) }
     {
-        self.words[at as usize] = encode(header);
+        self.words.set(at, encode(header));
     }
 
     /// The number of units in the unit at `at`, the last one of a gap.
@@ -65,7 +65,7 @@ impl UnitArray {
         requires { at < length self.now }
         ensures { result ≡ slice_index self.now at }
     {
-        self.words[at as usize]
+        self.words.get(at)
     }
 
     /// Puts a gap's number of units into the unit at `at`, its last one.
@@ -73,6 +73,6 @@ impl UnitArray {
         requires { at < length self.old }
         ensures { self.new ≡ slice_set self.old at size }
     {
-        self.words[at as usize] = size;
+        self.words.set(at, size);
     }
 }

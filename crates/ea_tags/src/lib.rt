@@ -4,8 +4,10 @@
 
 pub mod array;
 pub mod header;
+pub mod paged;
 #[cfg(test)]
 mod tests;
 
 pub use array::UnitArray;
 pub use header::Header;
+pub use paged::PagedArray;

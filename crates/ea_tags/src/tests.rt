@@ -1,6 +1,6 @@
 //! Headers, their words, and the units that hold them.
 use crate::header::{MAX_SIZE, decode, encode};
-use crate::{Header, UnitArray};
+use crate::{Header, PagedArray, UnitArray};
 use std::test::Fail;
 
 #[test]
@@ -46,5 +46,29 @@ fn a_gap_has_its_header_and_its_size(rt: HostRuntime) -> Result<(), Fail> {
     assert_eq!(rt; units.footer(2), 85);
     assert_eq!(rt; units.footer(11), 10);
     assert_eq!(rt; units.header(2), gap);
+    Ok(())
+}
+
+#[test]
+fn numbers_are_0_until_they_are_set(rt: HostRuntime) -> Result<(), Fail> {
+    assert_eq!(rt; PagedArray::new(rt.alloc(), 0)?.len(), 0);
+    let mut numbers = PagedArray::new(rt.alloc(), 1300)?;
+    assert_eq!(rt; numbers.len(), 1300);
+    for (at, value) in [(1299, 7), (0, 8), (512, 10), (1299, 6), (512, 0), (511, 9)] {
+        assert!(rt; at < numbers.len());
+        numbers.set(at, value);
+    }
+    for (at, value) in [
+        (0, 8),
+        (1, 0),
+        (511, 9),
+        (512, 0),
+        (1023, 0),
+        (1024, 0),
+        (1299, 6),
+    ] {
+        assert!(rt; at < numbers.len());
+        assert_eq!(rt; numbers.get(at), value, "at {at}");
+    }
     Ok(())
 }

@@ -1,5 +1,4 @@
 use Rattle.std.proofs.Common.{inl, inr, ◌∙◌, refl, arith}
-use Rattle.std.proofs.lemmas.List.{get_or_read}
 use Rattle.ea_mbc.proofs.Finding.{nothing-there, unnamed-IsCoded}
 use Rattle.ea_mbc.proofs.Seen.{seen}
 use Rattle.ea_mbc.proofs.Walking.{none-iff}
@@ -18,12 +17,15 @@ returns-then-offset-self c =
     (nothing-there _ c.args.offset _ s.coded.tiled
     (inr (inr (omega (arith, c.if-offset-self.true, s.same)))))
 
-pub returns-then-index-ne0 : goal.returns-then-index-ne0
-returns-then-index-ne0 c =
+pub returns-then-get-ne0 : goal.returns-then-get-ne0
+returns-then-get-ne0 c =
     let s = seen _ _ _ c.args.self.now c.self.view_is c.self.invariant.coded in
-    let name = get_or_read c.self.inside.names.items _ _
-    (omega (arith, s.coded.half, s.same, c.if-offset-self.false)) c.index.ensures 0 in
     let there = unnamed-IsCoded _ _ _ c.args.offset _ s.coded c.if-offset-ne0.false
     (omega (arith, s.same, c.if-offset-self.false))
-    (λ e. absurd (c.if-index-ne0.true (name ∙ e))) in
+    (λ e. absurd (c.if-get-ne0.true (c.get.ensures ∙ e))) in
     (λ _. there, λ _. refl)
+
+pub get-requires : goal.get-requires
+get-requires c =
+    let s = seen _ _ _ c.args.self.now c.self.view_is c.self.invariant.coded in
+    omega (arith, s.coded.half, s.same, c.if-offset-self.false)

@@ -56,7 +56,7 @@ put-requires c =
     (sym c.take.ensures) e.slot
 
 coded : (c : goal.After-put)
-    → IsCoded c.lay.new.tags c.lay.new.names.items c.self.inside.end
+    → IsCoded c.lay.new.tags c.lay.new.names c.self.inside.end
     (inserted c.args.block c.args.self.now.blocks)
 coded c =
     entered _ _ _ _ c.self.inside.end c.args.gap c.args.block c.args.self.now

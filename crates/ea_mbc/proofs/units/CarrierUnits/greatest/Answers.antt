@@ -10,7 +10,7 @@ use Rattle.ea_mbc.proofs.units.CarrierUnits.greatest.Goals as goal
 pub returns : goal.returns
 returns c =
     let u = c.self.inside in
-    let bs = blocks_of u.tags u.names.items u.end in
+    let bs = blocks_of u.tags u.names u.end in
     largest-is HEADER_UNITS u.end u.end u.index (gaps HEADER_UNITS u.end bs)
     (gaps-AreApart HEADER_UNITS u.end bs c.self.invariant.coded.0.tiled) c.self.invariant.indexed
     c.largest.result c.largest.ensures.bound c.largest.ensures.met

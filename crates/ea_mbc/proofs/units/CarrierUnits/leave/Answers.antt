@@ -85,7 +85,7 @@ put-requires c =
     (sym (c.take-2.ensures ∙ ap (taken_out at (c.args.stop - at)) c.take.ensures)) l.slot
 
 coded : (c : goal.After-put)
-    → IsCoded c.clear.new.tags c.clear.new.names.items c.self.inside.end
+    → IsCoded c.clear.new.tags c.clear.new.names c.self.inside.end
     (without offset_of c.args.offset c.args.self.now.blocks)
 coded c =
     let s = seen _ _ _ c.args.self.now c.self.view_is c.self.invariant.coded in

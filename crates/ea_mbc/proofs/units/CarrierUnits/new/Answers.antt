@@ -20,11 +20,11 @@ put-requires c =
     (slot-new c.args.inner c.args.end (tiled c.args.end c.requires.even c.requires.gap))
 
 coded : (c : goal.After-put)
-    → IsCoded c.put_gap.new.tags c.in_ok-names.names.items c.args.end []
+    → IsCoded c.put_gap.new.tags c.in_ok-names.names c.args.end []
 coded c =
     empty-coded _ _ c.args.end c.requires.even c.requires.gap
     (c.put_gap.ensures.as_many ∙ ap length c.in_ok-tags.ensures ∙ length-replicate c.args.end 0)
-    c.put_gap.ensures.gap (c.in_ok-names.ensures.items_if_clones_equal (λ y e. cc))
+    c.put_gap.ensures.gap c.in_ok-names.ensures
 
 pub invariant_of-result : goal.invariant_of-result
 invariant_of-result c =

@@ -70,7 +70,7 @@ put-requires c =
     subst (HasSlot at (c.args.stop - at)) (sym c.take.ensures) l.slot
 
 coded : (c : goal.After-put)
-    → IsCoded c.lay.new.tags c.lay.new.names.items c.self.inside.end
+    → IsCoded c.lay.new.tags c.lay.new.names c.self.inside.end
     (with_block c.args.block.offset c.args.block.size c.args.block.name c.args.self.now.blocks)
 coded c =
     let s = seen _ _ _ c.args.self.now c.self.view_is c.self.invariant.coded in

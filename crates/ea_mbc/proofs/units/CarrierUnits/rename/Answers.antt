@@ -7,20 +7,19 @@ use Rattle.ea_mbc.proofs.Seen.{seen, block-read, renamed}
 use Rattle.ea_mbc.proofs.Slotted.{stands, renaming, slots-made}
 use Rattle.ea_mbc.proofs.units.CarrierUnits.rename.Goals as goal
 
-pub index_mut-requires : goal.index_mut-requires
-index_mut-requires c =
+pub set-requires : goal.set-requires
+set-requires c =
     let s = seen _ _ _ c.args.self.now c.self.view_is c.self.invariant.coded in
     omega (arith, (block-read _ _ _ _ c.args.offset s c.requires).half)
 
-coded : (c : goal.After-self-1)
-    → IsCoded c.self.inside.tags (set c.self.inside.names.items (c.args.offset / 2) c.args.name)
-    c.self.inside.end
+coded : (c : goal.After-set)
+    → IsCoded c.self.inside.tags c.set.new.self c.self.inside.end
     (with_block c.args.offset (size_of (block_at c.args.self.now.blocks c.args.offset)) c.args.name
     c.args.self.now.blocks)
 coded c =
     let s = seen _ _ _ c.args.self.now c.self.view_is c.self.invariant.coded in
     renamed _ _ _ c.self.inside.end c.args.offset c.args.name c.args.self.now s
-    (block-read _ _ _ _ c.args.offset s c.requires) refl
+    (block-read _ _ _ _ c.args.offset s c.requires) c.set.ensures
 
 pub invariant_of-self : goal.invariant_of-self
 invariant_of-self c =
