@@ -16,7 +16,7 @@ use Rattle.ea_machine.specs.declared.stages.Stage.TheVariants.{Giving, Taking, E
 use Rattle.ea_machine.specs.Actor.{Actor}
 use Rattle.ea_machine.specs.Completion.{actor_rows, ending, finishing, work}
 use Rattle.ea_machine.specs.Machine.{IsReached, after_row, onward}
-use Rattle.ea_machine.specs.Machine.{run_on, step, wants}
+use Rattle.ea_machine.specs.Machine.{run, run_on, step, wants}
 use Rattle.ea_machine.specs.Setup.{Setup, migration, setup_of}
 use Rattle.ea_machine.specs.Shared.{Shared}
 use Rattle.ea_machine.specs.State.{State}
@@ -226,10 +226,9 @@ module _ (c : Config) (t : Trace) (me : ℕ) (steps : Option ℕ) (s : Scheduler
         (record {
           config = shares.config;
           trace = shares.trace;
-          state = w;
-          reached = shares.reached;
-          actor = at.actor;
-          shares = shares.shares;
+          turns = shares.reached.0;
+          actor = ap (λ (v : State). v.actors me) (sym shares.reached.1) ∙ at.actor;
+          shares = shares.shares ∙ ap (λ (v : State). v.shared) shares.reached.1;
           calls = tt;
           told = inl refl;
         })
@@ -252,9 +251,10 @@ module _ (c : Config) (t : Trace) (me : ℕ) (steps : Option ℕ) (s : Scheduler
         let v = step e w me in
         let took = of-run (λ d x k. Stepped d x k (actor_of s) (actor_of u) (Some (shared_of m))
         (Some (shared_of n)) None None) stepped in
-        let alike = step-alike e me took.state w (took.actor ∙ sym at.actor)
+        let before = run e took.turns in
+        let alike = step-alike e me before w (took.actor ∙ sym at.actor)
         (sym took.shares.0 ∙ shares.shares) in
-        let became : shared_of n ≡ (step e took.state me).shared = cc (took.shares.1) in (
+        let became : shared_of n ≡ (step e before me).shared = cc (took.shares.1) in (
           record {
             config = shares.config;
             trace = shares.trace;

@@ -23,12 +23,13 @@ use Rattle.ea_machine.specs.declared.stages.Route.TheVariants.{Linking, Pushing}
 use Rattle.ea_machine.specs.Actor.{Actor}
 use Rattle.ea_machine.specs.Alike.{HasNoAlike, IsNode, IsSpot}
 use Rattle.ea_machine.specs.Guards.{IsUnlinkedAt}
-use Rattle.ea_machine.specs.Machine.{after_row, begins, onward, wants_at}
+use Rattle.ea_machine.specs.Machine.{IsReached, after_row, begins, onward, run, wants_at}
 use Rattle.ea_machine.specs.Nodes.{first_node, spot_named}
 use Rattle.ea_machine.specs.Operations.{took_by}
 use Rattle.ea_machine.specs.Rows.{Answer, Got, Passes, Rests, Row, TakeLink, TakeTry}
 use Rattle.ea_machine.specs.Setup.{Setup, migration}
 use Rattle.ea_machine.specs.Shared.{Shared}
+use Rattle.ea_machine.specs.State.{State}
 use Rattle.ea_machine.specs.Table.{answer}
 use Rattle.ea_machine.specs.Walks.{ready, with_passed, worked_off}
 use Rattle.ea_shared.specs.Calls.{Caller, Did}
@@ -93,43 +94,50 @@ module _ {stage : Stage Content} (s : Scheduler) {shared : Option Shared} {calle
   abbrev a : Actor
   a = standing_at stage s
 
+  -- it stands so in this state
+  abbrev w : State
+  w = run e h.turns
+
+  reached : IsReached e w
+  reached = (h.turns, refl)
+
   number : IsScheduler s.config.schedulers me
   number = (s.number_from, s.number_to)
 
-  pub in_state : (at : Stage Content) → stage ≡ at → (h.state.actors me).stage ≡ at
+  pub in_state : (at : Stage Content) → stage ≡ at → (w.actors me).stage ≡ at
   in_state at now = ap (λ (x : Actor). x.stage) h.actor ∙ now
 
   -- what holds of what is shared in that state holds of it as it is told
-  pub told-so : (P : Shared → Type 0) → P h.state.shared → IfSome shared P
-  told-so P holds = if_some shared (λ x. x ≡ h.state.shared) P (λ x same. subst P (sym same) holds)
+  pub told-so : (P : Shared → Type 0) → P w.shared → IfSome shared P
+  told-so P holds = if_some shared (λ x. x ≡ w.shared) P (λ x same. subst P (sym same) holds)
       h.shares
 
   -- one carrier more can be counted
   pub ready-counts : CanCount s.instance
   ready-counts = subst (λ (x : Actor). CanCount x.instance) h.actor
-      (created-counts s.config s.trace.now h.config h.trace h.state h.reached me)
+      (created-counts s.config s.trace.now h.config h.trace w reached me)
 
   -- where an operation is left in that state, one is left
-  more : (o : Op) (ops : List Op) → (h.state.actors me).todo ≡ o ∷ ops → HasMore s
+  more : (o : Op) (ops : List Op) → (w.actors me).todo ≡ o ∷ ops → HasMore s
   more o ops first = left-more s.done s.text.now ops o
       (sym (ap (λ (x : Actor). x.todo) h.actor) ∙ first)
 
   -- the queue is to be taken: nothing is left of the walk before
   pub take-walked : a.next ≡ None → IfSome shared (λ x. x.rests me ≡ [])
   take-walked none = told-so (λ x. x.rests me ≡ [])
-      (calls.rest-none s.config s.trace.now h.config h.trace h.state h.reached me
+      (calls.rest-none s.config s.trace.now h.config h.trace w reached me
       (ap (λ (x : Actor). x.next) h.actor ∙ none))
 
   -- it had no nodes
   pub taken-suits : stage ≡ Begin → s.next ≡ None → SuitsNext s.instance s
   taken-suits begin none =
-      suits-taken stage s h.config h.trace h.state h.reached h.actor begin none
+      suits-taken stage s h.config h.trace w reached h.actor begin none
 
   -- the link of the walk's next node is to be read
   module _ (node : Node) (next : s.next ≡ Some node) where
-    next-node : (first_node (h.state.shared.rests me) ≡ Some node)
+    next-node : (first_node (w.shared.rests me) ≡ Some node)
         × IsNode s.config.schedulers s.trace.now.greatest node
-    next-node = calls.next-node s.config s.trace.now h.config h.trace h.state h.reached me number
+    next-node = calls.next-node s.config s.trace.now h.config h.trace w reached me number
         node (ap (λ (x : Actor). x.next) h.actor ∙ next)
 
     pub pass-node : IsNode s.config.schedulers s.trace.now.greatest node
@@ -144,7 +152,7 @@ module _ {stage : Stage Content} (s : Scheduler) {shared : Option Shared} {calle
         let few = passes-few s.config s.trace.now h.config h.trace in
         omega (
           arith,
-          few.passes h.state h.reached me node (ap (λ (x : Actor). x.next) h.actor ∙ next),
+          few.passes w reached me node (ap (λ (x : Actor). x.next) h.actor ∙ next),
           few.few,
           ap (λ (x : Actor). length x.passed) h.actor,
         )
@@ -153,32 +161,32 @@ module _ {stage : Stage Content} (s : Scheduler) {shared : Option Shared} {calle
   module _ (node : Node) (to : ℕ) (why : Why) (gone : Gone)
       (now : stage ≡ Routed (Pushing node to) why gone) where
     pub push-target : IsScheduler s.config.schedulers to
-    push-target = (calls.push-target s.config s.trace.now h.config h.trace h.state h.reached me
+    push-target = (calls.push-target s.config s.trace.now h.config h.trace w reached me
         number node to why gone (in_state (Routed (Pushing node to) why gone) now)).0
 
     pub push-node : IsNode s.config.schedulers s.trace.now.greatest node
-    push-node = calls.push-node s.config s.trace.now h.config h.trace h.state h.reached me number
+    push-node = calls.push-node s.config s.trace.now h.config h.trace w reached me number
         node to why gone (in_state (Routed (Pushing node to) why gone) now)
 
     pub push-nowhere : IfSome shared (HasNoAlike node)
     push-nowhere = told-so (HasNoAlike node)
-        (calls.push-no_alike s.config s.trace.now h.config h.trace h.state h.reached me number node
+        (calls.push-no_alike s.config s.trace.now h.config h.trace w reached me number node
         to why gone (in_state (Routed (Pushing node to) why gone) now))
 
   -- a node is to be linked
   module _ (node : Node) (to : ℕ) (why : Why) (gone : Gone)
       (now : stage ≡ Routed (Linking node to) why gone) where
     pub link-target : IsScheduler s.config.schedulers to
-    link-target = calls.link-target s.config s.trace.now h.config h.trace h.state h.reached me
+    link-target = calls.link-target s.config s.trace.now h.config h.trace w reached me
         number node to why gone (in_state (Routed (Linking node to) why gone) now)
 
     pub link-node : IsNode s.config.schedulers s.trace.now.greatest node
-    link-node = calls.link-node s.config s.trace.now h.config h.trace h.state h.reached me number
+    link-node = calls.link-node s.config s.trace.now h.config h.trace w reached me number
         node to why gone (in_state (Routed (Linking node to) why gone) now)
 
     pub link-unlinked : IfSome shared (IsUnlinkedAt node to)
     link-unlinked = told-so (IsUnlinkedAt node to)
-        (calls.link-unlinked s.config s.trace.now h.config h.trace h.state h.reached me number node
+        (calls.link-unlinked s.config s.trace.now h.config h.trace w reached me number node
         to why gone (in_state (Routed (Linking node to) why gone) now))
 
   -- the walk to which it belonged is to go on
@@ -186,61 +194,61 @@ module _ {stage : Stage Content} (s : Scheduler) {shared : Option Shared} {calle
       (now : stage ≡ Routed (Linking node to) Walk gone) where
     pub linked-can : migration e ≡ false → CanAllGo me s.instance s.passed.nodes
     linked-can off =
-        goes-linked stage s h.config h.trace h.state h.reached h.actor off node to gone now
+        goes-linked stage s h.config h.trace w reached h.actor off node to gone now
 
     pub linked-suits : migration e ≡ false → (worked me s.instance s.passed.nodes).hand ≡ None
         → SuitsNext (worked me s.instance s.passed.nodes).instance s
     linked-suits off =
-        suits-linked stage s h.config h.trace h.state h.reached h.actor off node to gone now
+        suits-linked stage s h.config h.trace w reached h.actor off node to gone now
 
     pub linked-next : SuitsNext s.instance s
     linked-next =
-        suits-after_link stage s h.config h.trace h.state h.reached h.actor node to gone now
+        suits-after_link stage s h.config h.trace w reached h.actor node to gone now
 
   -- the operation whose block is on its route is left
   pub task-more : (route : Route Content) (task : Task) (gone : Gone)
       → stage ≡ Routed route (For task) gone → HasMore s
   task-more route task gone now =
-      let first = calls.task-first s.config s.trace.now h.config h.trace h.state h.reached me number
+      let first = calls.task-first s.config s.trace.now h.config h.trace w reached me number
       route task gone (in_state (Routed route (For task) gone) now) in
       more first.0 first.1 first.2
 
   -- a name is to be given
   module _ (given : Named) (to : ℕ) (now : stage ≡ Giving given to) where
     pub give-name : (1 ≤ given.name) × (given.name ≤ s.trace.now.greatest)
-    give-name = calls.give-name s.config s.trace.now h.config h.trace h.state h.reached me number
+    give-name = calls.give-name s.config s.trace.now h.config h.trace w reached me number
         given to (in_state (Giving given to) now)
 
     pub give-spot : IsSpot s.config.schedulers given.spot
-    give-spot = calls.give-spot s.config s.trace.now h.config h.trace h.state h.reached me number
+    give-spot = calls.give-spot s.config s.trace.now h.config h.trace w reached me number
         given to (in_state (Giving given to) now)
 
     pub give-fresh : IfSome shared (λ x. spot_named given.name x.given ≡ None)
     give-fresh = told-so (λ x. spot_named given.name x.given ≡ None)
-        (calls.give-free s.config s.trace.now h.config h.trace h.state h.reached me number given to
+        (calls.give-free s.config s.trace.now h.config h.trace w reached me number given to
         (in_state (Giving given to) now))
 
     pub give-more : HasMore s
     give-more =
-        let first = calls.give-first s.config s.trace.now h.config h.trace h.state h.reached me
+        let first = calls.give-first s.config s.trace.now h.config h.trace w reached me
         number given to (in_state (Giving given to) now) in
         more _ first.0 first.1
 
   -- a name is to be taken
   module _ (name tries left : ℕ) (now : stage ≡ Taking name tries left) where
     pub take-name : (1 ≤ name) × (name ≤ s.trace.now.greatest)
-    take-name = calls.take-name s.config s.trace.now h.config h.trace h.state h.reached me number
+    take-name = calls.take-name s.config s.trace.now h.config h.trace w reached me number
         name tries left (in_state (Taking name tries left) now)
 
     pub take-more : HasMore s
     take-more =
-        let first = calls.take-first s.config s.trace.now h.config h.trace h.state h.reached me
+        let first = calls.take-first s.config s.trace.now h.config h.trace w reached me
         number name tries left (in_state (Taking name tries left) now) in
         more _ first.0 first.1
 
     take-placed : has_place s.names.places name ≡ true
     take-placed =
-        let first = calls.take-first s.config s.trace.now h.config h.trace h.state h.reached me
+        let first = calls.take-first s.config s.trace.now h.config h.trace w reached me
         number name tries left (in_state (Taking name tries left) now) in
         next-placed s (op.Take name tries) first.0
         (sym (ap (λ (x : Actor). x.todo) h.actor) ∙ first.1)
@@ -283,7 +291,7 @@ module _ {stage : Stage Content} (s : Scheduler) {shared : Option Shared} {calle
         → Did me TakeLink Rests shared new caller now → SuitsNext s.instance s
     rests-suits node begin next did =
         let u = in-answered TakeLink Rests did in
-        suits-rests stage s h.config h.trace u.state u.reached u.actor node begin next
+        suits-rests stage s h.config h.trace (run e u.turns) (u.turns, refl) u.actor node begin next
         (sym u.answered)
 
     -- it was passed
@@ -296,15 +304,15 @@ module _ {stage : Stage Content} (s : Scheduler) {shared : Option Shared} {calle
 
         pub passed-can : migration e ≡ false → CanAllGo me s.instance nodes
         passed-can off = subst (CanAllGo me s.instance) (sym are)
-            (goes-passed stage s h.config h.trace u.state u.reached u.actor off node None begin next
-            (sym u.answered))
+            (goes-passed stage s h.config h.trace (run e u.turns) (u.turns, refl) u.actor off node
+            None begin next (sym u.answered))
 
         pub passed-suits : migration e ≡ false → (worked me s.instance nodes).hand ≡ None
             → SuitsNext (worked me s.instance nodes).instance s
         passed-suits off = subst (λ ns. (worked me s.instance ns).hand ≡ None
             → SuitsNext (worked me s.instance ns).instance s) (sym are)
-            (suits-passed stage s h.config h.trace u.state u.reached u.actor off node None begin
-            next (sym u.answered))
+            (suits-passed stage s h.config h.trace (run e u.turns) (u.turns, refl) u.actor off node
+            None begin next (sym u.answered))
 
         ended-is : worked_off e me nodes (record a { passed = nodes; next = None })
             ≡ after_row e me a (Passes None) Begin
@@ -347,8 +355,8 @@ module _ {stage : Stage Content} (s : Scheduler) {shared : Option Shared} {calle
         record {
           place = take-placed name tries left at;
           fresh = sym (ap (λ (x : Actor). spot_named name x.held) u.actor)
-              ∙ calls.given-held s.config s.trace.now h.config h.trace u.state u.reached me number
-              name there.0
-              (let same : found ≡ spot_named name u.state.shared.given = cc in
+              ∙ calls.given-held s.config s.trace.now h.config h.trace (run e u.turns)
+              (u.turns, refl) me number name there.0
+              (let same : found ≡ spot_named name (run e u.turns).shared.given = cc in
               sym same ∙ there.1);
         }

@@ -20,10 +20,12 @@ use Rattle.ea_machine.specs.declared.stages.Route.TheVariants.{Abandoning, Clear
 use Rattle.ea_machine.specs.declared.stages.Route.TheVariants.{Sending, Settling, Trying}
 use Rattle.ea_machine.specs.Actor.{Actor}
 use Rattle.ea_machine.specs.Lists.{times_listed}
+use Rattle.ea_machine.specs.Machine.{IsReached, run}
 use Rattle.ea_machine.specs.Owners.{Busy, Employed}
 use Rattle.ea_machine.specs.Rows.{Answer, BusyTry, Look, Lost, Row, Saw, Won}
 use Rattle.ea_machine.specs.Setup.{Setup, migration}
 use Rattle.ea_machine.specs.Shared.{Shared}
+use Rattle.ea_machine.specs.State.{State}
 use Rattle.ea_sound.proofs.ListedCalls as listed
 use Rattle.ea_sound.specs.Places.{IsNumber}
 use Rattle.ea_sound.proofs.CarrierCalls as carriers
@@ -48,6 +50,13 @@ module _ {stage : Stage Content} (s : Scheduler) {shared : Option Shared} {calle
   abbrev e : Setup
   e = setup_for s
 
+  -- it stands so in this state
+  abbrev w : State
+  w = run e h.turns
+
+  reached : IsReached e w
+  reached = (h.turns, refl)
+
   number : IsScheduler s.config.schedulers me
   number = (s.number_from, s.number_to)
 
@@ -56,20 +65,20 @@ module _ {stage : Stage Content} (s : Scheduler) {shared : Option Shared} {calle
   of-run n is = (is.0, omega (arith, is.1))
 
   -- the instance in that state is the scheduler's
-  its : (P : Instance → Type 0) → P (h.state.actors me).instance → P s.instance
+  its : (P : Instance → Type 0) → P (w.actors me).instance → P s.instance
   its P holds = subst (λ (a : Actor). P a.instance) h.actor holds
 
   -- a number stands in the lists once at most
   pub listed-once : (n : ℕ) → times_listed n s.lists.lists ≤ 1
   listed-once n = subst (λ (a : Actor). times_listed n a.lists ≤ 1) h.actor
-      (listed.listed-once s.config s.trace.now h.config h.trace h.state h.reached me number n)
+      (listed.listed-once s.config s.trace.now h.config h.trace w reached me number n)
 
   module _ (why : Why) (gone : Gone) where
     -- the owner word of the carrier of the block in the hand is to be read
     module _ (hand : Named) (now : stage ≡ Routed (Looking hand) why gone) where
       pub look-carrier : IsCarrier s.config.schedulers hand.spot.carrier
       look-carrier = of-run hand.spot.carrier
-          (carriers.look-number s.config s.trace.now h.config h.trace h.state h.reached me number
+          (carriers.look-number s.config s.trace.now h.config h.trace w reached me number
           why gone hand (in_state s h (Routed (Looking hand) why gone) now))
 
     -- the carrier is to be made busy
@@ -77,13 +86,13 @@ module _ {stage : Stage Content} (s : Scheduler) {shared : Option Shared} {calle
       where
         pub try-carrier : IsCarrier s.config.schedulers hand.spot.carrier
         try-carrier = of-run hand.spot.carrier
-            (carriers.try-number s.config s.trace.now h.config h.trace h.state h.reached me number
+            (carriers.try-number s.config s.trace.now h.config h.trace w reached me number
             why gone hand seen (in_state s h (Routed (Trying hand seen) why gone) now))
 
         pub try-pooled : IsPooledBy me seen
         try-pooled =
-            let (g, is, units) = carriers.try-seen s.config s.trace.now h.config h.trace h.state
-            h.reached me number why gone hand seen
+            let (g, is, units) = carriers.try-seen s.config s.trace.now h.config h.trace w
+            reached me number why gone hand seen
             (in_state s h (Routed (Trying hand seen) why gone) now) in
             record { largest = g; is = is; units = units }
 
@@ -91,24 +100,24 @@ module _ {stage : Stage Content} (s : Scheduler) {shared : Option Shared} {calle
       -- a busy carrier is to be settled
       module _ (now : stage ≡ Routed (Settling x) why gone) where
         pub settle-many : x.kind ≡ Multi
-        settle-many = carriers.settle-many s.config s.trace.now h.config h.trace h.state h.reached
+        settle-many = carriers.settle-many s.config s.trace.now h.config h.trace w reached
             me number why gone x (in_state s h (Routed (Settling x) why gone) now)
 
         pub settle-carrier : IsCarrier s.config.schedulers x.number
         settle-carrier = of-run x.number
-            (carriers.settle-number s.config s.trace.now h.config h.trace h.state h.reached me
+            (carriers.settle-number s.config s.trace.now h.config h.trace w reached me
             number why gone x (in_state s h (Routed (Settling x) why gone) now))
 
         pub settle-busy : IfSome shared (λ y. y.places x.number ≡ Busy me)
         settle-busy = told-so s h (λ y. y.places x.number ≡ Busy me)
-            (carriers.settle-place s.config s.trace.now h.config h.trace h.state h.reached me
+            (carriers.settle-place s.config s.trace.now h.config h.trace w reached me
             number why gone x (in_state s h (Routed (Settling x) why gone) now))
 
         pub settle-for : (gap : ℕ) → x.blocks ≢ [] → gap ≡ largest (gaps_of x)
             → IsFor x.number gap x
         settle-for gap some is =
-            let units = carriers.settle-largest s.config s.trace.now h.config h.trace h.state
-            h.reached me number why gone x (in_state s h (Routed (Settling x) why gone) now) in
+            let units = carriers.settle-largest s.config s.trace.now h.config h.trace w
+            reached me number why gone x (in_state s h (Routed (Settling x) why gone) now) in
             record {
               number = refl;
               blocks = some;
@@ -119,12 +128,12 @@ module _ {stage : Stage Content} (s : Scheduler) {shared : Option Shared} {calle
       -- one is to be abandoned
       module _ (now : stage ≡ Routed (Abandoning x) why gone) where
         pub abandon-many : x.kind ≡ Multi
-        abandon-many = leaving.abandon-many s.config s.trace.now h.config h.trace h.state h.reached
+        abandon-many = leaving.abandon-many s.config s.trace.now h.config h.trace w reached
             me number why gone x (in_state s h (Routed (Abandoning x) why gone) now)
 
         pub abandon-carrier : IsCarrier s.config.schedulers x.number
         abandon-carrier = of-run x.number
-            (leaving.abandon-number s.config s.trace.now h.config h.trace h.state h.reached me
+            (leaving.abandon-number s.config s.trace.now h.config h.trace w reached me
             number why gone x (in_state s h (Routed (Abandoning x) why gone) now))
 
         -- there is room for its number, where it is an own one
@@ -132,22 +141,22 @@ module _ {stage : Stage Content} (s : Scheduler) {shared : Option Shared} {calle
             → length s.lists.lists.pooled + length s.lists.lists.traitors < NUMBERS
         abandon-room own = subst (λ (a : Actor). length a.lists.pooled + length a.lists.traitors
             < NUMBERS) h.actor
-            (listed.abandon-room s.config s.trace.now h.config h.trace h.state h.reached me number
+            (listed.abandon-room s.config s.trace.now h.config h.trace w reached me number
             why gone x (in_state s h (Routed (Abandoning x) why gone) now) own)
 
         pub abandon-employed : IfSome shared (λ y. y.places x.number ≡ Employed me)
         abandon-employed = told-so s h (λ y. y.places x.number ≡ Employed me)
-            (leaving.abandon-place s.config s.trace.now h.config h.trace h.state h.reached me
+            (leaving.abandon-place s.config s.trace.now h.config h.trace w reached me
             number why gone x (in_state s h (Routed (Abandoning x) why gone) now))
 
         pub abandon-for : (gap : ℕ) → gap ≡ largest (gaps_of x) → IsFor x.number gap x
         abandon-for gap is =
             let at = in_state s h (Routed (Abandoning x) why gone) now in
-            let units = leaving.abandon-largest s.config s.trace.now h.config h.trace h.state
-            h.reached me number why gone x at in
+            let units = leaving.abandon-largest s.config s.trace.now h.config h.trace w
+            reached me number why gone x at in
             record {
               number = refl;
-              blocks = leaving.abandon-some s.config s.trace.now h.config h.trace h.state h.reached
+              blocks = leaving.abandon-some s.config s.trace.now h.config h.trace w reached
                   me number why gone x at;
               is = is;
               units = (ap (λ n. n % 2) is ∙ units.0, omega (arith, is, units.1));
@@ -156,89 +165,89 @@ module _ {stage : Stage Content} (s : Scheduler) {shared : Option Shared} {calle
       -- one is to be sent home
       module _ (now : stage ≡ Routed (Sending x) why gone) where
         pub send-many : x.kind ≡ Multi
-        send-many = leaving.send-many s.config s.trace.now h.config h.trace h.state h.reached
+        send-many = leaving.send-many s.config s.trace.now h.config h.trace w reached
             me number why gone x (in_state s h (Routed (Sending x) why gone) now)
 
         pub send-empty : x.blocks ≡ []
-        send-empty = leaving.send-empty s.config s.trace.now h.config h.trace h.state h.reached
+        send-empty = leaving.send-empty s.config s.trace.now h.config h.trace w reached
             me number why gone x (in_state s h (Routed (Sending x) why gone) now)
 
         pub send-other : owner_of x.number ≢ me
-        send-other = leaving.send-other s.config s.trace.now h.config h.trace h.state h.reached
+        send-other = leaving.send-other s.config s.trace.now h.config h.trace w reached
             me number why gone x (in_state s h (Routed (Sending x) why gone) now)
 
         pub send-carrier : IsCarrier s.config.schedulers x.number
         send-carrier = of-run x.number
-            (leaving.send-number s.config s.trace.now h.config h.trace h.state h.reached me
+            (leaving.send-number s.config s.trace.now h.config h.trace w reached me
             number why gone x (in_state s h (Routed (Sending x) why gone) now))
 
         pub send-employed : IfSome shared (λ y. y.places x.number ≡ Employed me)
         send-employed = told-so s h (λ y. y.places x.number ≡ Employed me)
-            (leaving.send-place s.config s.trace.now h.config h.trace h.state h.reached me
+            (leaving.send-place s.config s.trace.now h.config h.trace w reached me
             number why gone x (in_state s h (Routed (Sending x) why gone) now))
 
       -- one is to be cleared
       module _ (now : stage ≡ Routed (Clearing x) why gone) where
         pub clear-mine : owner_of x.number ≡ me
-        clear-mine = leaving.clear-mine s.config s.trace.now h.config h.trace h.state h.reached
+        clear-mine = leaving.clear-mine s.config s.trace.now h.config h.trace w reached
             me number why gone x (in_state s h (Routed (Clearing x) why gone) now)
 
         pub clear-carrier : IsCarrier s.config.schedulers x.number
         clear-carrier = of-run x.number
-            (leaving.clear-number s.config s.trace.now h.config h.trace h.state h.reached me
+            (leaving.clear-number s.config s.trace.now h.config h.trace w reached me
             number why gone x (in_state s h (Routed (Clearing x) why gone) now))
 
         pub clear-employed : IfSome shared (λ y. y.places x.number ≡ Employed me)
         clear-employed = told-so s h (λ y. y.places x.number ≡ Employed me)
-            (leaving.clear-place s.config s.trace.now h.config h.trace h.state h.reached me
+            (leaving.clear-place s.config s.trace.now h.config h.trace w reached me
             number why gone x (in_state s h (Routed (Clearing x) why gone) now))
 
         -- the instance has it no longer, and owns it
         pub clear-none : content_of (employed s.instance) x.number ≡ None
         clear-none = its (λ i. content_of (employed i) x.number ≡ None)
-            (leaving.clear-none s.config s.trace.now h.config h.trace h.state h.reached me
+            (leaving.clear-none s.config s.trace.now h.config h.trace w reached me
             number why gone x (in_state s h (Routed (Clearing x) why gone) now))
 
         pub clear-own : IsSome (own_at s.instance.own x.number)
         clear-own = its (λ i. IsSome (own_at i.own x.number))
-            (subst IsSome (sym (carriers.clear-own s.config s.trace.now h.config h.trace h.state
-            h.reached me number why gone x
+            (subst IsSome (sym (carriers.clear-own s.config s.trace.now h.config h.trace w
+            reached me number why gone x
             (in_state s h (Routed (Clearing x) why gone) now))) refl)
 
   -- the settings of its instance are those of the run
   pub own-settings : s.instance.settings ≡ e.settings
   own-settings = its (λ i. i.settings ≡ e.settings)
-      (releasing.own-settings s.config s.trace.now h.config h.trace h.state h.reached me number)
+      (releasing.own-settings s.config s.trace.now h.config h.trace w reached me number)
 
   pub own-migrates : migration e ≡ true → 0 < s.instance.settings.acul
   own-migrates on = its (λ i. 0 < i.settings.acul)
-      (releasing.own-migrates s.config s.trace.now h.config h.trace h.state h.reached me number on)
+      (releasing.own-migrates s.config s.trace.now h.config h.trace w reached me number on)
 
   -- a carrier that has returned is to be cleared
   module _ (n : ℕ) (now : stage ≡ Collecting n) where
     pub collect-mine : owner_of n ≡ me
-    collect-mine = carriers.collect-mine s.config s.trace.now h.config h.trace h.state h.reached me
+    collect-mine = carriers.collect-mine s.config s.trace.now h.config h.trace w reached me
         number n (in_state s h (Collecting n) now)
 
     pub collect-carrier : IsCarrier s.config.schedulers n
     collect-carrier = of-run n
-        (carriers.collect-number s.config s.trace.now h.config h.trace h.state h.reached me
+        (carriers.collect-number s.config s.trace.now h.config h.trace w reached me
         number n (in_state s h (Collecting n) now))
 
     pub collect-returned : IfSome shared (λ y. HasReturned me (y.places n))
     collect-returned = told-so s h (λ y. HasReturned me (y.places n))
-        (carriers.collect-home s.config s.trace.now h.config h.trace h.state h.reached me number n
+        (carriers.collect-home s.config s.trace.now h.config h.trace w reached me number n
         (in_state s h (Collecting n) now))
 
     pub collect-none : content_of (employed s.instance) n ≡ None
     collect-none = its (λ i. content_of (employed i) n ≡ None)
-        (carriers.collect-none s.config s.trace.now h.config h.trace h.state h.reached me
+        (carriers.collect-none s.config s.trace.now h.config h.trace w reached me
         number n (in_state s h (Collecting n) now))
 
     pub collect-own : IsSome (own_at s.instance.own n)
     collect-own = its (λ i. IsSome (own_at i.own n))
-        (subst IsSome (sym (carriers.collect-own s.config s.trace.now h.config h.trace h.state
-        h.reached me number n (in_state s h (Collecting n) now))) refl)
+        (subst IsSome (sym (carriers.collect-own s.config s.trace.now h.config h.trace w
+        reached me number n (in_state s h (Collecting n) now))) refl)
 
   -- a row was answered
   module _ {new : Option Shared} {then : Option Caller} where
@@ -247,10 +256,10 @@ module _ {stage : Stage Content} (s : Scheduler) {shared : Option Shared} {calle
       abbrev u : Answered e me (standing_at stage s) row got shared caller then
       u = in-answered s h row got did
 
-      there : (at : Stage Content) → stage ≡ at → (u.state.actors me).stage ≡ at
+      there : (at : Stage Content) → stage ≡ at → ((run e u.turns).actors me).stage ≡ at
       there at now = ap (λ (a : Actor). a.stage) u.actor ∙ now
 
-      own : (P : Instance → Type 0) → P (u.state.actors me).instance → P s.instance
+      own : (P : Instance → Type 0) → P ((run e u.turns).actors me).instance → P s.instance
       own P holds = subst (λ (a : Actor). P a.instance) u.actor holds
 
     module _ (why : Why) (gone : Gone) (hand : Named) where
@@ -261,8 +270,8 @@ module _ {stage : Stage Content} (s : Scheduler) {shared : Option Shared} {calle
             → NamesEmployer v
         saw-named v did =
             let u = in-answered s h (Look hand.spot.carrier) (Saw v) did in
-            words.saw-named s.config s.trace.now h.config h.trace u.state u.reached me number
-            why gone hand (there (Look hand.spot.carrier) (Saw v) did
+            words.saw-named s.config s.trace.now h.config h.trace (run e u.turns)
+            (u.turns, refl) me number why gone hand (there (Look hand.spot.carrier) (Saw v) did
             (Routed (Looking hand) why gone) now) v (sym u.answered)
 
         -- the block is here
@@ -274,9 +283,10 @@ module _ {stage : Stage Content} (s : Scheduler) {shared : Option Shared} {calle
             let got = Saw (word.Employed me) in
             let u = in-answered s h row got did in
             own row got did (λ i. IsSome (block_in (employed i) hand.spot))
-            (releasing.release-block s.config s.trace.now h.config h.trace u.state u.reached me
-            number why gone hand (there row got did (Routed (Looking hand) why gone) now)
-            (words.saw-employed me hand.spot.carrier u.state.shared me (sym u.answered)))
+            (releasing.release-block s.config s.trace.now h.config h.trace (run e u.turns)
+            (u.turns, refl) me number why gone hand
+            (there row got did (Routed (Looking hand) why gone) now)
+            (words.saw-employed me hand.spot.carrier (run e u.turns).shared me (sym u.answered)))
 
       -- a try to make the carrier busy
       module _ (seen : OwnerWord) (now : stage ≡ Routed (Trying hand seen) why gone) where
@@ -288,9 +298,9 @@ module _ {stage : Stage Content} (s : Scheduler) {shared : Option Shared} {calle
             let row = BusyTry hand.spot.carrier seen in
             let u = in-answered s h row (Won x) did in
             let (same, many, (b, at, named)) = carriers.won-block s.config s.trace.now h.config
-            h.trace u.state u.reached me number why gone hand seen
+            h.trace (run e u.turns) (u.turns, refl) me number why gone hand seen
             (there row (Won x) did (Routed (Trying hand seen) why gone) now) x
-            (words.busy-won me hand.spot.carrier u.state.shared seen x (sym u.answered)) in
+            (words.busy-won me hand.spot.carrier (run e u.turns).shared seen x (sym u.answered)) in
             (same, many, subst IsSome (sym at) refl)
 
         pub lost-named : (v : OwnerWord)
@@ -299,6 +309,7 @@ module _ {stage : Stage Content} (s : Scheduler) {shared : Option Shared} {calle
         lost-named v did =
             let row = BusyTry hand.spot.carrier seen in
             let u = in-answered s h row (Lost v) did in
-            words.lost-named s.config s.trace.now h.config h.trace u.state u.reached me number
-            why gone hand seen (there row (Lost v) did (Routed (Trying hand seen) why gone) now) v
+            words.lost-named s.config s.trace.now h.config h.trace (run e u.turns)
+            (u.turns, refl) me number why gone hand seen
+            (there row (Lost v) did (Routed (Trying hand seen) why gone) now) v
             (sym u.answered)

@@ -1,6 +1,6 @@
 -- A row that a scheduler has done, as it is told, and where the step leaves the scheduler.
-use Rattle.std.specs.Prelude.{◌≡◌, ◌≢◌, ◌⊎◌, ℕ, ◌+◌, Bool, true, false, Option, None, Some}
-use Rattle.std.specs.Prelude.{IfSome, IsSome}
+use Rattle.std.specs.Prelude.{◌≡◌, ◌≢◌, ◌⊎◌, ℕ, Bool, true, false, List, [], ◌∷◌, ◌++◌, length}
+use Rattle.std.specs.Prelude.{Option, None, Some, IfSome, IsSome}
 use Rattle.std.proofs.Common.{Bor, refl, sym, ap, ◌∙◌, subst, inl, inr}
 use Rattle.ea_model.specs.declared.settings.Config.{Config}
 use Rattle.ea_model.specs.declared.trace.Trace.{Trace}
@@ -9,16 +9,16 @@ use Rattle.ea_model.specs.Settings.{IsValidConfig}
 use Rattle.ea_model.specs.Trace.{IsValidTrace}
 use Rattle.ea_model.proofs.Options.{both_some, if_some, some_value}
 use Rattle.ea_machine.specs.Actor.{Actor}
-use Rattle.ea_machine.specs.Machine.{IsReached, after, after_row, onward, step, wants}
+use Rattle.ea_machine.specs.Machine.{after, after_row, onward, run, step, wants}
 use Rattle.ea_machine.specs.Rows.{Answer, Row}
 use Rattle.ea_machine.specs.Setup.{Setup, setup_of}
 use Rattle.ea_machine.specs.Shared.{Shared}
 use Rattle.ea_machine.specs.State.{State}
 use Rattle.ea_machine.specs.Statistics.{observed}
 use Rattle.ea_machine.specs.Table.{answer, effect}
-use Rattle.ea_shared.specs.Calls.{Caller, Did, HasEffect, TookStep, caller_of}
-use Rattle.ea_sound.proofs.Completing.{reached-step}
-use Rattle.ea_sound.proofs.TurnLists.{step-ended, step-mine, step-shared}
+use Rattle.ea_shared.specs.Calls.{Caller, Did, HasEffect, KnowsFront, TookStep, caller_of}
+use Rattle.ea_sound.proofs.OtherTurns.{actor-since, rest-since}
+use Rattle.ea_sound.proofs.TurnLists.{run-snoc, step-mine, step-shared}
 use Rattle.ea_machine.specs.declared.stages.Stage.{Stage}
 use Rattle.ea_machine.specs.declared.stages.Stage.TheVariants as stages
 use Rattle.ea_machine.specs.declared.asks.Ask.{Ask}
@@ -65,17 +65,29 @@ module _ (e : Setup) (w : State) (me : ℕ) (a : Actor) (at : w.actors me ≡ a)
       ∙ ap (λ (x : Actor). effect me (wants x) w.shared) at
       ∙ ap (λ r. effect me r w.shared) want
 
--- a reached state in which the scheduler stands so, and the row is answered so; what is shared is
--- as it is told, and the caller that is told took its step there
+-- a caller that knew a front of the turns stands after all of them as it did, as the others' turns
+-- leave it
+pub front-stands : (e : Setup) (me : ℕ) (turns : List ℕ) (x : Caller) → KnowsFront e me turns x
+    → (x.actor ≡ (run e turns).actors me) × (x.rest ≡ length ((run e turns).shared.rests me))
+front-stands e me turns x knew = (
+  ap (λ (y : Caller). y.actor) knew.stands
+      ∙ sym (actor-since e me x.turns knew.since knew.others)
+      ∙ ap (λ l. (run e l).actors me) (sym knew.front),
+  ap (λ (y : Caller). y.rest) knew.stands
+      ∙ sym (rest-since e me x.turns knew.since knew.others)
+      ∙ ap (λ l. length ((run e l).shared.rests me)) (sym knew.front),
+)
+
+-- turns after which the scheduler stands so, and the row is answered so; what is shared is as it is
+-- told, and the caller that is told knew a front of them and took its step there
 pub record Answered (e : Setup) (me : ℕ) (a : Actor) (row : Row) (got : Answer)
     (shared : Option Shared) (caller now : Option Caller) : Type 0 where
-  pub state : State
-  pub reached : IsReached e state
-  pub actor : state.actors me ≡ a
-  pub answered : got ≡ answer me row state.shared
-  pub shares : IfSome shared (λ s. s ≡ state.shared)
-  pub calls : IfSome caller (λ x. (x ≡ caller_of e me state x.taken)
-      × (now ≡ Some (caller_of e me (step e state me) (x.taken + 1))))
+  pub turns : List ℕ
+  pub actor : (run e turns).actors me ≡ a
+  pub answered : got ≡ answer me row (run e turns).shared
+  pub shares : IfSome shared (λ s. s ≡ (run e turns).shared)
+  pub calls : IfSome caller (λ x. KnowsFront e me turns x
+      × (now ≡ Some (caller_of e me (turns ++ me ∷ []))))
 
 module _ (c : Config) (t : Trace) (me : ℕ) (a : Actor) where
   abbrev e : Setup
@@ -83,13 +95,12 @@ module _ (c : Config) (t : Trace) (me : ℕ) (a : Actor) where
 
   -- a row is done
   module _ (row : Row) (got : Answer) where
-    -- there is a state in which it is answered so
+    -- after some turns it is answered so
     pub answered-so : (shared new : Option Shared) (caller now : Option Caller)
         → Ready c t me a shared caller → Did me row got shared new caller now
         → Answered e me a row got shared caller now
     answered-so (Some s) new None now h did = record {
-      state = h.state;
-      reached = h.reached;
+      turns = h.turns;
       actor = h.actor;
       answered = (let effects = did.shared in effects.0) ∙ ap (answer me row) h.shares;
       shares = h.shares;
@@ -98,12 +109,11 @@ module _ (c : Config) (t : Trace) (me : ℕ) (a : Actor) where
     answered-so shared new (Some x) now h did =
         let mine = subst (TookStep me row got shared now) h.calls did.caller in
         record {
-          state = mine.0;
-          reached = mine.1;
-          actor = sym (ap (λ (y : Caller). y.actor) mine.2) ∙ h.actor;
-          answered = mine.4;
-          shares = mine.3;
-          calls = (h.calls ∙ mine.2, mine.5);
+          turns = mine.turns;
+          actor = sym (front-stands e me mine.turns (caller_of e me h.turns) mine.knew).0 ∙ h.actor;
+          answered = mine.answered;
+          shares = mine.shares;
+          calls = (subst (KnowsFront e me mine.turns) (sym h.calls) mine.knew, mine.is);
         }
     answered-so None new None now h did = absurd (none-told None None refl refl h.told)
 
@@ -125,14 +135,14 @@ module _ (c : Config) (t : Trace) (me : ℕ) (a : Actor) where
           → Stepped c t me a b shared new caller now
       stepped shared new caller now h did =
           let u = answered-so shared new caller now h did in
+          let w = run e u.turns in
           record {
-            state = u.state;
-            reached = u.reached;
+            turns = u.turns;
             actor = u.actor;
-            is = own u.state u.actor u.answered;
-            shares = both_some shared (λ s. s ≡ u.state.shared) (HasEffect me row got new)
-                (λ s. (s ≡ u.state.shared) × (new ≡ Some (step e u.state me).shared))
-                (λ s same effects. (same, part u.state u.actor s new same effects.1))
+            is = own w u.actor u.answered;
+            shares = both_some shared (λ s. s ≡ w.shared) (HasEffect me row got new)
+                (λ s. (s ≡ w.shared) × (new ≡ Some (step e w me).shared))
+                (λ s same effects. (same, part w u.actor s new same effects.1))
                 u.shares did.shared;
             shares_untold = did.shared_untold;
             calls = u.calls;
@@ -143,34 +153,25 @@ module _ (c : Config) (t : Trace) (me : ℕ) (a : Actor) where
     module _ (want : wants a ≡ row) (goes : a.stage ≢ Ended)
         (unplanned : (ask : Ask) (p : CarrierPlan) → a.stage ≢ Creating ask p)
         (plans : HasPlanned e me a.instance (onward e me (after_row e me a got a.stage))) where
-      -- in a state where it is answered so
-      plans-in : (w : State) → IsReached e w → w.actors me ≡ a
-          → got ≡ answer me row w.shared → (shared : Option Shared) (caller : Option Caller)
-          → IfSome shared (λ s. s ≡ w.shared) → IfSome caller (λ x. x ≡ caller_of e me w x.taken)
-          → Plans c t me a shared caller
-      unfolding after
-      plans-in w reached at answered shared caller shares calls = record {
-        state = w;
-        reached = reached;
-        actor = at;
-        shares = shares;
-        calls = calls;
-        unplanned = unplanned;
-        gone_on = onward e me (after_row e me a got a.stage);
-        planned = plans;
-        is = step-own e w me a at row want goes
-            ∙ sym (ap (λ r. after e me a r a.stage) answered);
-      }
-
       pub plans-so : (shared new : Option Shared) (caller now : Option Caller)
           → Ready c t me a shared caller → Did me row got shared new caller now
           → Plans c t me a shared caller
+      unfolding after
       plans-so shared new caller now h did =
           let u = answered-so shared new caller now h did in
-          let calls = if_some caller (λ x. (x ≡ caller_of e me u.state x.taken)
-          × (now ≡ Some (caller_of e me (step e u.state me) (x.taken + 1))))
-          (λ x. x ≡ caller_of e me u.state x.taken) (λ x both. both.0) u.calls in
-          plans-in u.state u.reached u.actor u.answered shared caller u.shares calls
+          record {
+            turns = u.turns;
+            actor = u.actor;
+            shares = u.shares;
+            calls = if_some caller (λ x. KnowsFront e me u.turns x
+                × (now ≡ Some (caller_of e me (u.turns ++ me ∷ []))))
+                (KnowsFront e me u.turns) (λ x both. both.0) u.calls;
+            unplanned = unplanned;
+            gone_on = onward e me (after_row e me a got a.stage);
+            planned = plans;
+            is = step-own e (run e u.turns) me a u.actor row want goes
+                ∙ sym (ap (λ r. after e me a r a.stage) u.answered);
+          }
 
 -- by whether its text is done
 pub stage-goes : (stage : Stage Content) → is_ended stage ≡ false → stage ≢ Ended
@@ -243,32 +244,33 @@ row-stepped s t shared new caller now h goes o =
     stepped s.config s.trace.now s.number (actor_of s) d.row d.got (actor_of t) d.wanted
     (stage-goes s.stage goes) (o.is ∙ ap observed d.is) shared new caller now h d.did
 
--- after a step it stands in a reached state again
+-- after a step it stands after one turn more
 module _ (c : Config) (t : Trace) (me : ℕ) (a b : Actor) (shared new : Option Shared)
     (caller now : Option Caller) where
   ready-again : IsValidConfig c → IsValidTrace c.schedulers t → IsSome shared ⊎ IsSome caller
       → Stepped c t me a b shared new caller now → Ready c t me b new now
   ready-again valid made told o =
       let e = setup_of c t in
-      let then = step e o.state me in
-      let shares = if_some shared (λ s. (s ≡ o.state.shared) × (new ≡ Some then.shared))
+      let before = run e o.turns in
+      let then = step e before me in
+      let same : run e (o.turns ++ me ∷ []) ≡ then = run-snoc e o.turns me in
+      let mine = caller_of e me (o.turns ++ me ∷ []) in
+      let shares = if_some shared (λ s. (s ≡ before.shared) × (new ≡ Some then.shared))
       (λ s. new ≡ Some then.shared) (λ s both. both.1) o.shares in
-      let mine : Caller → Caller = λ x. caller_of e me then (x.taken + 1) in
-      let calls = if_some caller (λ x. (x ≡ caller_of e me o.state x.taken) × (now ≡ Some (mine x)))
-      (λ x. now ≡ Some (mine x)) (λ x both. both.1) o.calls in
+      let calls = if_some caller (λ x. KnowsFront e me o.turns x × (now ≡ Some mine))
+      (λ x. now ≡ Some mine) (λ x both. both.1) o.calls in
       record {
         config = valid;
         trace = made;
-        state = then;
-        reached = reached-step e o.state me o.reached;
-        actor = sym o.is;
-        shares = told-after shared new (λ s. then.shared) (λ s. s ≡ then.shared) (λ s. refl) shares
-            o.shares_untold;
-        calls = told-after caller now mine (λ x. x ≡ caller_of e me then x.taken) (λ x. refl) calls
-            o.calls_untold;
+        turns = o.turns ++ me ∷ [];
+        actor = ap (λ (w : State). w.actors me) same ∙ sym o.is;
+        shares = told-after shared new (λ s. then.shared)
+            (λ s. s ≡ (run e (o.turns ++ me ∷ [])).shared)
+            (λ s. sym (ap (λ (w : State). w.shared) same)) shares o.shares_untold;
+        calls = told-after caller now (λ x. mine) (λ x. x ≡ mine) (λ x. refl) calls o.calls_untold;
         told = elim told [
           | inl is ↦ inl (still-told shared new (λ s. then.shared) shares is)
-          | inr is ↦ inr (still-told caller now mine calls is)
+          | inr is ↦ inr (still-told caller now (λ x. mine) calls is)
         ];
       }
 

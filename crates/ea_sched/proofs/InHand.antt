@@ -35,29 +35,26 @@ as-for {n} {k} {gap} {x} {y} same is h =
 
 module _ {stage : Stage Content} (s : Scheduler) {shared : Option Shared} {caller : Option Caller}
     (h : IsReadyAt stage s shared caller) where
-  told-caller : (P : Caller → Type 0)
-      → ((taken : ℕ) → P (caller_of (setup_for s) s.number h.state taken)) → IfSome caller P
-  told-caller P holds = if_some caller (λ x. x ≡ caller_of (setup_for s) s.number h.state x.taken) P
-      (λ x same. subst P (sym same) (holds x.taken)) h.calls
+  abbrev mine : Caller
+  mine = caller_of (setup_for s) s.number h.turns
+
+  told-caller : (P : Caller → Type 0) → P mine → IfSome caller P
+  told-caller P holds = if_some caller (λ x. x ≡ mine) P (λ x same. subst P (sym same) holds)
+      h.calls
 
   pub collects : (n : ℕ) → stage ≡ Collecting n → IfSome caller (IsCollecting n)
-  collects n now = told-caller (IsCollecting n) (λ _. in_state s h (Collecting n) now)
+  collects n now = told-caller (IsCollecting n) (in_state s h (Collecting n) now)
 
   module _ (why : Why) (gone : Gone) (x : Content) where
-    settle-row : stage ≡ Routed (Settling x) why gone → (taken : ℕ)
-        → WantsRow s.number (Settle x) (caller_of (setup_for s) s.number h.state taken)
-    settle-row now taken = (
-      refl,
-      ap (wants_at (h.state.actors s.number).next)
-          (in_state s h (Routed (Settling x) why gone) now),
-    )
-
     pub settle-wanted : stage ≡ Routed (Settling x) why gone → IsWanted s.number (Settle x) caller
-    settle-wanted now = told-caller (WantsRow s.number (Settle x)) (settle-row now)
+    settle-wanted now = told-caller (WantsRow s.number (Settle x)) (
+      refl,
+      ap (wants_at mine.actor.next) (in_state s h (Routed (Settling x) why gone) now),
+    )
 
     pub clear-leaving : stage ≡ Routed (Clearing x) why gone → IfSome caller IsLeaving
     clear-leaving now = told-caller IsLeaving
-        (λ _. (x, ap leaving_at (in_state s h (Routed (Clearing x) why gone) now)))
+        (x, ap leaving_at (in_state s h (Routed (Clearing x) why gone) now))
 
 -- a carrier that isn't empty
 pub not-nil : (bs : List BlockAt) → (bs ≡ [] → ⊥) → is_nil bs ≡ false

@@ -13,7 +13,7 @@ use Rattle.ea_machine.specs.declared.tasks.Task.{Task}
 use Rattle.ea_machine.specs.declared.tasks.Why.{Why}
 use Rattle.ea_machine.specs.declared.tasks.Why.TheVariants.{For, Walk}
 use Rattle.ea_machine.specs.Actor.{Actor}
-use Rattle.ea_machine.specs.Machine.{onward, wants_on}
+use Rattle.ea_machine.specs.Machine.{onward, run, wants_on}
 use Rattle.ea_machine.specs.Releases.{Turned, turned}
 use Rattle.ea_machine.specs.Rows.{Clear}
 use Rattle.ea_machine.specs.Setup.{Setup, migration}
@@ -93,8 +93,8 @@ module _ (s t : Scheduler) (same : IsSame s t) (route : Route Content) (why : Wh
     over-more (Some g) row is task for =
         let a = standing_at (Routed route why gone) s in
         let u = turned e s.number route gone a row.got in
-        let first = calls.task-first s.config s.trace.now h.config h.trace h.state h.reached
-        s.number number route task gone
+        let first = calls.task-first s.config s.trace.now h.config h.trace (run e h.turns)
+        (h.turns, refl) s.number number route task gone
         (ap (λ (x : Actor). x.stage) h.actor ∙ ap (λ y. Routed route y gone) for) in
         left-more t.done t.text.now first.1 first.0
         (todo-by u g u.route row.turned

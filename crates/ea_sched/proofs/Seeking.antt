@@ -8,7 +8,7 @@ use Rattle.ea_model.specs.declared.carriers.Spot.{Spot}
 use Rattle.ea_model.specs.declared.carriers.Kind.TheVariants.{Multi}
 use Rattle.ea_model.specs.declared.operations.Op.{Op}
 use Rattle.ea_model.specs.declared.operations.Op.TheVariants as op
-use Rattle.ea_model.specs.declared.units.TheConstants.{MAX_PAGES, NUMBERS}
+use Rattle.ea_model.specs.declared.units.TheConstants.{NUMBERS}
 use Rattle.ea_model.specs.Content.{Content}
 use Rattle.ea_model.specs.Employment.{employing}
 use Rattle.ea_model.specs.Instance.{Instance, chosen_spot, content_of, employed}
@@ -24,7 +24,7 @@ use Rattle.ea_machine.specs.declared.owners.OwnerWord.{OwnerWord}
 use Rattle.ea_machine.specs.declared.stages.Stage.{Stage}
 use Rattle.ea_machine.specs.declared.stages.Stage.TheVariants.{Creating, Fetching, Searching}
 use Rattle.ea_machine.specs.Actor.{Actor}
-use Rattle.ea_machine.specs.Machine.{after_row, onward}
+use Rattle.ea_machine.specs.Machine.{IsReached, after_row, onward, run}
 use Rattle.ea_machine.specs.Lists.{times_listed}
 use Rattle.ea_machine.specs.Owners as owners
 use Rattle.ea_machine.specs.Searches.{goes_on, left_in}
@@ -83,8 +83,12 @@ module _ {stage : Stage Content} (s : Scheduler) {shared : Option Shared} {calle
   abbrev e : Setup
   e = setup_for s
 
+  -- it stands so in this state
   abbrev w : State
-  w = h.state
+  w = run e h.turns
+
+  reached : IsReached e w
+  reached = (h.turns, refl)
 
   number : IsScheduler s.config.schedulers me
   number = (s.number_from, s.number_to)
@@ -113,13 +117,13 @@ module _ {stage : Stage Content} (s : Scheduler) {shared : Option Shared} {calle
 
   suits : (at : Stage Content) → stage ≡ at → Fits e w me (w.actors me) at
   suits at now = subst (Fits e w me (w.actors me)) (in_state at now)
-      ((reached-rule s.config s.trace.now h.config h.trace w h.reached).present.fits me)
+      ((reached-rule s.config s.trace.now h.config h.trace w reached).present.fits me)
 
   -- what is asked for there
   module _ (ask : Ask) (asked : Asked e w (w.actors me) ask) where
     ask-more : HasMore s
     ask-more =
-        let first = asks.asked-first s.config s.trace.now h.config h.trace w h.reached me number ask
+        let first = asks.asked-first s.config s.trace.now h.config h.trace w reached me number ask
         asked in
         left-more s.done s.text.now first.1 first.0
         (sym (ap (λ (x : Actor). x.todo) h.actor) ∙ first.2)
@@ -135,7 +139,7 @@ module _ {stage : Stage Content} (s : Scheduler) {shared : Option Shared} {calle
       old-here (Some old) q = record {
         name = omega (
           arith,
-          (asks.asked-old_name s.config s.trace.now h.config h.trace w h.reached me number ask
+          (asks.asked-old_name s.config s.trace.now h.config h.trace w reached me number ask
               asked old q).1,
           s.names_upto,
           ap (λ ns. ns.greatest) names,
@@ -147,9 +151,9 @@ module _ {stage : Stage Content} (s : Scheduler) {shared : Option Shared} {calle
       ask-asked : IsAsked i t ask
       ask-asked = record {
         even =
-            asks.asked-even s.config s.trace.now h.config h.trace w h.reached me number ask asked;
+            asks.asked-even s.config s.trace.now h.config h.trace w reached me number ask asked;
         least =
-            asks.asked-least s.config s.trace.now h.config h.trace w h.reached me number ask asked;
+            asks.asked-least s.config s.trace.now h.config h.trace w reached me number ask asked;
         fresh = record {
           place = ap (λ ns. has_place ns.places ask.name) names
               ∙ asked-placed s ask (drop s.done s.text.now) refl
@@ -157,7 +161,7 @@ module _ {stage : Stage Content} (s : Scheduler) {shared : Option Shared} {calle
           fresh = ap (λ ns. spot_named ask.name ns.held) names
               ∙ ap (option_map (λ (x : Named). x.spot))
               (ap (λ (x : Actor). named_at ask.name x.held) (sym h.actor)
-              ∙ asks.asked-unheld s.config s.trace.now h.config h.trace w h.reached me number ask
+              ∙ asks.asked-unheld s.config s.trace.now h.config h.trace w reached me number ask
               asked);
         };
         old = old-here ask.old refl;
@@ -173,7 +177,7 @@ module _ {stage : Stage Content} (s : Scheduler) {shared : Option Shared} {calle
 
     pub search-carrier : {count : ℕ} → count ≡ s.config.schedulers → IsCarrier count at
     search-carrier same = as-carrier same (carriers.search-number s.config s.trace.now h.config
-        h.trace w h.reached me number ask at part (in_state (Searching ask at part) now))
+        h.trace w reached me number ask at part (in_state (Searching ask at part) now))
 
     pub search-next : goes_on part ≡ true
     search-next = searches.2
@@ -191,7 +195,7 @@ module _ {stage : Stage Content} (s : Scheduler) {shared : Option Shared} {calle
     observes : observed (standing_at (Searching ask at part) s)
         ≡ standing_at (Searching ask at part) s
     observes = subst (λ st. observed (standing_at st s) ≡ standing_at st s) now
-        (subst (λ (x : Actor). observed x ≡ x) h.actor (reached-observed e me w h.reached))
+        (subst (λ (x : Actor). observed x ≡ x) h.actor (reached-observed e me w reached))
 
     -- after its look the figures are observed as they were before
     pub search-observed : {t : Scheduler} {new : Option Shared} {then : Option Caller}
@@ -216,7 +220,7 @@ module _ {stage : Stage Content} (s : Scheduler) {shared : Option Shared} {calle
 
     pub fetch-carrier : {count : ℕ} → count ≡ s.config.schedulers → IsCarrier count at
     fetch-carrier same = as-carrier same (carriers.fetch-number s.config s.trace.now h.config
-        h.trace w h.reached me number ask at part seen
+        h.trace w reached me number ask at part seen
         (in_state (Fetching ask at part seen) now))
 
     pub fetch-before : (1 ≤ left_in part) × IsInList part at s.lists.lists
@@ -225,7 +229,7 @@ module _ {stage : Stage Content} (s : Scheduler) {shared : Option Shared} {calle
     pub fetch-pooled : {count : ℕ} → count ≡ s.config.schedulers → IsPooled count seen
     fetch-pooled same =
         let (i, g, is, by, units) = carriers.fetch-seen s.config s.trace.now h.config h.trace w
-        h.reached me number ask at part seen (in_state (Fetching ask at part seen) now) in
+        reached me number ask at part seen (in_state (Fetching ask at part seen) now) in
         let from = scheduler-number e i by in
         record {
           instance = i;
@@ -249,53 +253,60 @@ module _ {stage : Stage Content} (s : Scheduler) {shared : Option Shared} {calle
       u = answered-so s.config s.trace.now me (standing_at stage s) (FetchTry at seen) (Won x)
           shared new caller then h did
 
-      there : (u.state.actors me).stage ≡ Fetching ask at part seen
+      -- it stood so in this state
+      abbrev v : State
+      v = run e u.turns
+
+      came : IsReached e v
+      came = (u.turns, refl)
+
+      there : (v.actors me).stage ≡ Fetching ask at part seen
       there = ap (λ (y : Actor). y.stage) u.actor ∙ now
 
-      is-same : (u.state.actors me).instance ≡ s.instance
+      is-same : (v.actors me).instance ≡ s.instance
       is-same = ap (λ (y : Actor). y.instance) u.actor
 
-      won : tried_at seen (u.state.shared.places at) ≡ Won x
-      won = fetch-won me at u.state.shared seen x (sym u.answered)
+      won : tried_at seen (v.shared.places at) ≡ Won x
+      won = fetch-won me at v.shared seen x (sym u.answered)
 
       pub won-migrates : 0 < s.instance.settings.acul
       won-migrates = subst (λ (i : Instance). 0 < i.settings.acul) is-same
-          (own-migrates s.config s.trace.now h.config h.trace u.state u.reached me number fetch-on)
+          (own-migrates s.config s.trace.now h.config h.trace v came me number fetch-on)
 
       won-number : x.number ≡ at
-      won-number = carriers.fetched-number s.config s.trace.now h.config h.trace u.state u.reached
+      won-number = carriers.fetched-number s.config s.trace.now h.config h.trace v came
           me number ask at part seen there x won
 
       pub won-new : content_of (employed s.instance) x.number ≡ None
       won-new = ap (content_of (employed s.instance)) won-number
           ∙ subst (λ (i : Instance). content_of (employed i) at ≡ None) is-same
-          (carriers.fetched-none s.config s.trace.now h.config h.trace u.state u.reached me number
+          (carriers.fetched-none s.config s.trace.now h.config h.trace v came me number
           ask at part seen there x won)
 
       pub won-kind : x.kind ≡ Multi
-      won-kind = carriers.fetched-many s.config s.trace.now h.config h.trace u.state u.reached
+      won-kind = carriers.fetched-many s.config s.trace.now h.config h.trace v came
           me number ask at part seen there x won
 
       pub won-laid : IsLaidOut x
-      won-laid = carriers.fetched-laid s.config s.trace.now h.config h.trace u.state u.reached
+      won-laid = carriers.fetched-laid s.config s.trace.now h.config h.trace v came
           me number ask at part seen there x won
 
       pub won-apart : All (ContentsApart x) (employed s.instance)
       won-apart = subst (λ (i : Instance). All (ContentsApart x) (employed i)) is-same
-          (carriers.fetched-away s.config s.trace.now h.config h.trace u.state u.reached me number
+          (carriers.fetched-away s.config s.trace.now h.config h.trace v came me number
           ask at part seen there x won)
 
       pub won-someones : IsSomeones s.instance (own_of x)
       won-someones = subst (λ (i : Instance). IsSomeones i (own_of x)) is-same
-          (carriers.fetched-someones s.config s.trace.now h.config h.trace u.state u.reached me
+          (carriers.fetched-someones s.config s.trace.now h.config h.trace v came me
           number ask at part seen there x won)
 
       pub won-choice : IsSome (chosen_spot (employing s.instance x) ask.need)
       won-choice = subst IsSome
           (sym (ap (λ i. chosen_spot (employing i x) ask.need) (sym is-same) ∙ chosen.1)) refl where
             chosen : (spot : Spot)
-                × (chosen_spot (employing (u.state.actors me).instance x) ask.need ≡ Some spot)
-            chosen = asks.fetched-chosen s.config s.trace.now h.config h.trace u.state u.reached me
+                × (chosen_spot (employing (v.actors me).instance x) ask.need ≡ Some spot)
+            chosen = asks.fetched-chosen s.config s.trace.now h.config h.trace v came me
                 number ask at part seen there x won
 
   -- a carrier is to be created
@@ -304,7 +315,7 @@ module _ {stage : Stage Content} (s : Scheduler) {shared : Option Shared} {calle
     creates = suits (Creating ask p) now
 
     created-at : (owner_of p.number ≡ me) × (w.shared.places p.number ≡ owners.Absent)
-    created-at = carriers.create-number s.config s.trace.now h.config h.trace w h.reached me number
+    created-at = carriers.create-number s.config s.trace.now h.config h.trace w reached me number
         ask p (in_state (Creating ask p) now)
 
     pub create-on : migration e ≡ true
@@ -312,10 +323,6 @@ module _ {stage : Stage Content} (s : Scheduler) {shared : Option Shared} {calle
 
     pub create-plan : plan s.instance ask.need ≡ Ok p
     create-plan = subst (λ i. plan i ask.need ≡ Ok p) same-instance creates.1
-
-    pub create-pages : (1 ≤ p.pages) × (p.pages ≤ MAX_PAGES)
-    create-pages = asks.create-pages s.config s.trace.now h.config h.trace w h.reached me number
-        ask p (in_state (Creating ask p) now)
 
     pub create-own : owner_of p.number ≡ me
     create-own = created-at.0

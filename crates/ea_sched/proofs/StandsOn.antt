@@ -12,7 +12,9 @@ use Rattle.ea_machine.specs.declared.stages.Stage.{Stage}
 use Rattle.ea_machine.specs.declared.stages.Stage.TheVariants.{Collecting, Ready}
 use Rattle.ea_machine.specs.Actor.{Actor}
 use Rattle.ea_machine.specs.Setup.{Setup, migration, setup_of}
+use Rattle.ea_machine.specs.Machine.{IsReached, run}
 use Rattle.ea_machine.specs.Shared.{Shared}
+use Rattle.ea_machine.specs.State.{State}
 use Rattle.ea_shared.specs.Calls.{Caller}
 use Rattle.ea_sound.specs.Present.{Fits}
 use Rattle.ea_sound.proofs.Asked.{reached-rule}
@@ -41,13 +43,20 @@ module _ {stage : Stage Content} (s : Scheduler) {shared : Option Shared} {calle
   abbrev e : Setup
   e = setup_for s
 
-  in-state : (h.state.actors s.number).stage ≡ stage
+  -- it stands so in this state
+  abbrev w : State
+  w = run e h.turns
+
+  reached : IsReached e w
+  reached = (h.turns, refl)
+
+  in-state : (w.actors s.number).stage ≡ stage
   in-state = ap (λ (x : Actor). x.stage) h.actor
 
   -- where carriers don't migrate, it is at few of them
   pub stays-off : migration e ≡ false → IsOffStage stage
   stays-off off = subst IsOffStage in-state
-      (is-off e h.state (reached-rule s.config s.trace.now h.config h.trace h.state h.reached)
+      (is-off e w (reached-rule s.config s.trace.now h.config h.trace w reached)
       s.number (number-scheduler e s.number (s.number_from, s.number_to)) off)
 
   by-migration : (b : Bool) → migration e ≡ b → (IsOffStage stage → ⊥) → b ≡ true
@@ -61,8 +70,8 @@ module _ {stage : Stage Content} (s : Scheduler) {shared : Option Shared} {calle
   -- it isn't in the middle of a step
   pub never-ready : stage ≡ Ready → ⊥
   never-ready is =
-      let rule = reached-rule s.config s.trace.now h.config h.trace h.state h.reached in
-      subst (Fits e h.state s.number (h.state.actors s.number)) (in-state ∙ is)
+      let rule = reached-rule s.config s.trace.now h.config h.trace w reached in
+      subst (Fits e w s.number (w.actors s.number)) (in-state ∙ is)
       (rule.present.fits s.number)
 
 -- at a carrier that came home

@@ -11,7 +11,7 @@ use Rattle.ea_machine.specs.declared.tasks.Why.TheVariants.{Walk}
 use Rattle.ea_machine.specs.declared.stages.Stage.TheVariants.{Begin, Collecting, Routed}
 use Rattle.ea_machine.specs.declared.stages.Route.{Route}
 use Rattle.ea_machine.specs.Actor.{Actor}
-use Rattle.ea_machine.specs.Machine.{IsReached, wants_on}
+use Rattle.ea_machine.specs.Machine.{IsReached, run, wants_on}
 use Rattle.ea_machine.specs.Releases.{Turned, disowned, turned}
 use Rattle.ea_machine.specs.Rows.{Answer, Clear}
 use Rattle.ea_machine.specs.Setup.{Setup, setup_of}
@@ -79,34 +79,41 @@ module _ (s t : Scheduler) (same : IsSame s t) (route : Route Content) (gone : G
   u : Answered e me a (wants_on route) got shared caller then
   u = in-answered s h (wants_on route) got did
 
+  -- it stood so in this state
+  abbrev v : State
+  v = run e u.turns
+
+  came : IsReached e v
+  came = (u.turns, refl)
+
   abbrev moved : Shared
-  moved = effect me (wants_on route) u.state.shared
+  moved = effect me (wants_on route) v.shared
 
   abbrev Left : Actor → Answer → Type 0
   Left b r =
       let t = turned e me route gone b r in
-      HoldsAt e u.state moved me (InWalk e u.state moved me)
-      (walks s.config s.trace.now h.config h.trace u.state u.reached me number route gone)
+      HoldsAt e v moved me (InWalk e v moved me)
+      (walks s.config s.trace.now h.config h.trace v came me number route gone)
       Walk t.gone t.actor t.route
 
   left : Left a got
   left = subst (λ b. Left b got) u.actor
-      (subst (Left (u.state.actors me)) (sym u.answered)
-      (turned-walk s.config s.trace.now h.config h.trace u.state u.reached me number route gone
+      (subst (Left (v.actors me)) (sym u.answered)
+      (turned-walk s.config s.trace.now h.config h.trace v came me number route gone
       (ap (λ (b : Actor). b.stage) u.actor)).0)
 
   by-route : (o : Option (Route Content))
-      → HoldsAt e u.state moved me (InWalk e u.state moved me)
-      (walks s.config s.trace.now h.config h.trace u.state u.reached me number route gone)
+      → HoldsAt e v moved me (InWalk e v moved me)
+      (walks s.config s.trace.now h.config h.trace v came me number route gone)
       Walk turn.gone turn.actor o
-      → o ≡ None → InWalk e u.state moved me (at Begin turn.actor)
-  by-route o holds over = subst (HoldsAt e u.state moved me (InWalk e u.state moved me)
-      (walks s.config s.trace.now h.config h.trace u.state u.reached me number route gone)
+      → o ≡ None → InWalk e v moved me (at Begin turn.actor)
+  by-route o holds over = subst (HoldsAt e v moved me (InWalk e v moved me)
+      (walks s.config s.trace.now h.config h.trace v came me number route gone)
       Walk turn.gone turn.actor) over holds
 
   pub suits-turned : turn.route ≡ None → standing_at Begin t ≡ at Begin turn.actor
       → SuitsNext t.instance t
-  suits-turned over is = suits-same s t same h.config h.trace u.state u.reached moved turn.actor
+  suits-turned over is = suits-same s t same h.config h.trace v came moved turn.actor
       (ap (λ (b : Actor). b.todo) u.actor ∙ sym (turned-keeps e me route gone a got).1) is
       (by-route turn.route left over)
 
@@ -121,16 +128,22 @@ module _ (s t : Scheduler) (same : IsSame s t) (route : Route Content) (gone : G
 -- a carrier was collected
 module _ (s t : Scheduler) (same : IsSame s t) (n : ℕ) {shared : Option Shared}
     {caller : Option Caller} (h : IsReadyAt (Collecting n) s shared caller) where
+  abbrev w : State
+  w = run (setup_for s) h.turns
+
+  reached : IsReached (setup_for s) w
+  reached = (h.turns, refl)
+
   abbrev cleared : Shared
-  cleared = effect s.number (Clear n) h.state.shared
+  cleared = effect s.number (Clear n) w.shared
 
   pub suits-collected : standing_at Begin t
       ≡ at Begin (disowned n (struck n (standing_at (Collecting n) s))) → SuitsNext t.instance t
-  suits-collected is = suits-same s t same h.config h.trace h.state h.reached cleared
+  suits-collected is = suits-same s t same h.config h.trace w reached cleared
       (disowned n (struck n (standing_at (Collecting n) s))) (ap (λ (b : Actor). b.todo) h.actor) is
-      (subst (λ b. InWalk (setup_for s) h.state cleared s.number
+      (subst (λ b. InWalk (setup_for s) w cleared s.number
       (at Begin (disowned n (struck n b)))) h.actor
-      (collected-walks s.config s.trace.now h.config h.trace h.state h.reached s.number
+      (collected-walks s.config s.trace.now h.config h.trace w reached s.number
       (s.number_from, s.number_to) n
       (ap (λ (b : Actor). b.stage) h.actor)))
 

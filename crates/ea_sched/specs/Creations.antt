@@ -1,5 +1,5 @@
 -- Steps that plan a multiblock carrier: for want of memory only these fail.
-use Rattle.std.specs.Prelude.{◌≡◌, ◌≢◌, ℕ, ◌+◌, false, Option, None, Some, IfSome, Ok}
+use Rattle.std.specs.Prelude.{◌≡◌, ◌≢◌, ℕ, ◌+◌, false, List, Option, None, Some, IfSome, Ok}
 use Rattle.ea_model.specs.declared.carriers.CarrierPlan.{CarrierPlan}
 use Rattle.ea_model.specs.declared.settings.Config.{Config}
 use Rattle.ea_model.specs.declared.trace.Trace.{Trace}
@@ -12,14 +12,13 @@ use Rattle.ea_machine.specs.declared.stages.Stage.TheVariants.{Creating}
 use Rattle.ea_machine.specs.declared.tasks.Gone.{Gone}
 use Rattle.ea_machine.specs.declared.tasks.Why.{Why}
 use Rattle.ea_machine.specs.Actor.{Actor}
-use Rattle.ea_machine.specs.Machine.{IsReached, onward, step}
+use Rattle.ea_machine.specs.Machine.{onward, run, step}
 use Rattle.ea_machine.specs.Placements.{making}
 use Rattle.ea_machine.specs.Setup.{Setup, migration, setup_of}
 use Rattle.ea_machine.specs.Shared.{Shared}
-use Rattle.ea_machine.specs.State.{State}
 use Rattle.ea_machine.specs.Statistics.{observed}
 use Rattle.ea_machine.specs.Walks.{after_route}
-use Rattle.ea_shared.specs.Calls.{Caller, caller_of}
+use Rattle.ea_shared.specs.Calls.{Caller, KnowsFront}
 use Rattle.ea_sched.specs.declared.state.Scheduler.{Scheduler}
 use Rattle.ea_sched.specs.Acting.{setup_for, standing_at}
 
@@ -35,19 +34,19 @@ pub record HasPlanned (setup : Setup) (me : ℕ) (i : Instance) (a : Actor) : Ty
   pub next : plan.birth ≡ i.created + 1
   pub is : a ≡ making setup me ask plan before (migration setup)
 
--- scheduler `me` stands so in a reached state, where what is shared and the caller are as they are
--- told. It has no carrier to create there, and by its step it plans a multiblock carrier
+-- scheduler `me` stands so after these turns of the run, where what is shared is as it is told. The
+-- caller, where that is told, knew all of these but the last ones, which were turns of others. The
+-- scheduler has no carrier to create there, and by its step it plans a multiblock carrier
 pub record Plans (c : Config) (t : Trace) (me : ℕ) (a : Actor) (shared : Option Shared)
     (caller : Option Caller) : Type 0 where
-  pub state : State
-  pub reached : IsReached (setup_of c t) state
-  pub actor : state.actors me ≡ a
-  pub shares : IfSome shared (λ s. s ≡ state.shared)
-  pub calls : IfSome caller (λ x. x ≡ caller_of (setup_of c t) me state x.taken)
+  pub turns : List ℕ
+  pub actor : (run (setup_of c t) turns).actors me ≡ a
+  pub shares : IfSome shared (λ s. s ≡ (run (setup_of c t) turns).shared)
+  pub calls : IfSome caller (KnowsFront (setup_of c t) me turns)
   pub unplanned : (ask : Ask) (plan : CarrierPlan) → a.stage ≢ Creating ask plan
   pub gone_on : Actor
   pub planned : HasPlanned (setup_of c t) me a.instance gone_on
-  pub is : (step (setup_of c t) state me).actors me ≡ observed gone_on
+  pub is : (step (setup_of c t) (run (setup_of c t) turns) me).actors me ≡ observed gone_on
 
 -- the scheduler stands so, at a stage
 abbrev pub PlansAt : Stage Content → Scheduler → Option Shared → Option Caller → Type 0

@@ -1,5 +1,6 @@
 -- A scheduler in a run, and its step there.
-use Rattle.std.specs.Prelude.{◌≡◌, ◌⊎◌, ℕ, ◌+◌, Bool, Option, None, Some, IfSome, IsSome}
+use Rattle.std.specs.Prelude.{◌≡◌, ◌⊎◌, ℕ, Bool, List, [], ◌∷◌, ◌++◌, Option, None, Some, IfSome}
+use Rattle.std.specs.Prelude.{IsSome}
 use Rattle.ea_model.specs.declared.settings.Config.{Config}
 use Rattle.ea_model.specs.declared.trace.Trace.{Trace}
 use Rattle.ea_model.specs.Content.{Content}
@@ -9,42 +10,39 @@ use Rattle.ea_machine.specs.Setup.{migration, setup_of}
 use Rattle.ea_machine.specs.Shared.{Shared}
 use Rattle.ea_machine.specs.declared.stages.Stage.{Stage}
 use Rattle.ea_machine.specs.Actor.{Actor}
-use Rattle.ea_machine.specs.State.{State}
-use Rattle.ea_machine.specs.Machine.{IsReached, step}
-use Rattle.ea_machine.specs.Machine.{after_row, onward, wants}
+use Rattle.ea_machine.specs.Machine.{after_row, onward, run, step, wants}
 use Rattle.ea_machine.specs.Rows.{Answer, Row}
 use Rattle.ea_machine.specs.Statistics.{observed}
-use Rattle.ea_shared.specs.Calls.{Caller, Did, caller_of}
+use Rattle.ea_shared.specs.Calls.{Caller, Did, KnowsFront, caller_of}
 use Rattle.ea_sched.specs.declared.state.Scheduler.{Scheduler}
 use Rattle.ea_sched.specs.Acting.{actor_of, setup_for, standing_at}
 
--- scheduler `me` stands so in a reached state of a run of a valid trace under a valid
--- configuration; what is shared is as it is told, or the caller that is told is this scheduler, or
--- both
+-- scheduler `me` stands so after these turns of a run of a valid trace under a valid configuration;
+-- what is shared is as it is told, or the caller that is told is this scheduler, which knows these
+-- turns, or both
 pub record Ready (c : Config) (t : Trace) (me : ℕ) (a : Actor) (shared : Option Shared)
     (caller : Option Caller) : Type 0 where
   pub config : IsValidConfig c
   pub trace : IsValidTrace c.schedulers t
-  pub state : State
-  pub reached : IsReached (setup_of c t) state
-  pub actor : state.actors me ≡ a
-  pub shares : IfSome shared (λ s. s ≡ state.shared)
-  pub calls : IfSome caller (λ x. x ≡ caller_of (setup_of c t) me state x.taken)
+  pub turns : List ℕ
+  pub actor : (run (setup_of c t) turns).actors me ≡ a
+  pub shares : IfSome shared (λ s. s ≡ (run (setup_of c t) turns).shared)
+  pub calls : IfSome caller (λ x. x ≡ caller_of (setup_of c t) me turns)
   pub told : IsSome shared ⊎ IsSome caller
 
--- scheduler `me`, which stood so in a reached state, has taken its step there: it is as it is after
--- the step, and so is what is shared, where that is told, and the caller, where that is told
+-- scheduler `me`, which stood so after these turns, has taken its step there: it is as it is after
+-- the step, and so is what is shared, where that is told. The caller, where that is told, knew all
+-- of these turns but the last ones, which were turns of others; now it knows them and its step
 pub record Stepped (c : Config) (t : Trace) (me : ℕ) (a b : Actor) (shared after : Option Shared)
     (caller now : Option Caller) : Type 0 where
-  pub state : State
-  pub reached : IsReached (setup_of c t) state
-  pub actor : state.actors me ≡ a
-  pub is : b ≡ (step (setup_of c t) state me).actors me
-  pub shares : IfSome shared (λ s. (s ≡ state.shared)
-      × (after ≡ Some (step (setup_of c t) state me).shared))
+  pub turns : List ℕ
+  pub actor : (run (setup_of c t) turns).actors me ≡ a
+  pub is : b ≡ (step (setup_of c t) (run (setup_of c t) turns) me).actors me
+  pub shares : IfSome shared (λ s. (s ≡ (run (setup_of c t) turns).shared)
+      × (after ≡ Some (step (setup_of c t) (run (setup_of c t) turns) me).shared))
   pub shares_untold : shared ≡ None → after ≡ None
-  pub calls : IfSome caller (λ x. (x ≡ caller_of (setup_of c t) me state x.taken)
-      × (now ≡ Some (caller_of (setup_of c t) me (step (setup_of c t) state me) (x.taken + 1))))
+  pub calls : IfSome caller (λ x. KnowsFront (setup_of c t) me turns x
+      × (now ≡ Some (caller_of (setup_of c t) me (turns ++ me ∷ []))))
   pub calls_untold : caller ≡ None → now ≡ None
 
 -- the scheduler stands so, at a stage
@@ -65,7 +63,7 @@ pub record StartsRow (stage : Stage Content) (s : Scheduler) (count last : ℕ) 
   pub migrates : moves ≡ migration (setup_for s)
   pub ready : IsReadyAt stage s shared caller
 
--- the scheduler stands so in a reached state, whatever is told of it
+-- the scheduler stands so after some turns of its run, whatever is told of it
 abbrev pub HasReached : Scheduler → Type 0
 HasReached s = (shared : Option Shared) × (caller : Option Caller) × IsReady s shared caller
 

@@ -1,31 +1,39 @@
 -- What a call on what schedulers share asks for, and what it does.
-use Rattle.std.specs.Prelude.{◌≡◌, ℕ, ◌+◌, Option, None, Some, IfSome, length}
+use Rattle.std.specs.Prelude.{◌≡◌, ◌≢◌, ℕ, List, [], ◌∷◌, ◌++◌, All, Option, None, Some, IfSome}
+use Rattle.std.specs.Prelude.{length}
 use Rattle.ea_machine.specs.Setup.{Setup}
 use Rattle.ea_machine.specs.Shared.{Shared}
 use Rattle.ea_machine.specs.Actor.{Actor}
-use Rattle.ea_machine.specs.State.{State}
 use Rattle.ea_machine.specs.Rows.{Answer, Row}
 use Rattle.ea_machine.specs.Table.{answer, effect}
-use Rattle.ea_machine.specs.Machine.{IsReached, step, wants}
+use Rattle.ea_machine.specs.Machine.{run, wants}
 
--- the scheduler that calls, where the object tells it: its number, how it stands in a run of the
--- setup, how many nodes are left of its walk, and how many steps it has taken
+-- the scheduler that calls, where the object tells it: its number, the turns of a run of the setup
+-- that it knows, how it stands after them, and how many nodes are left of its walk then
 pub record Caller : Type 0 where
   pub setup : Setup
   pub number : ℕ
+  pub turns : List ℕ
   pub actor : Actor
   pub rest : ℕ
-  pub taken : ℕ
 
--- a scheduler in a state of a run, after that many steps of its own, as the caller of a row
-abbrev pub caller_of : Setup → ℕ → State → ℕ → Caller
-caller_of setup me state taken = record {
+-- a scheduler after these turns of a run, as the caller of a row
+abbrev pub caller_of : Setup → ℕ → List ℕ → Caller
+caller_of setup me turns = record {
   setup = setup;
   number = me;
-  actor = state.actors me;
-  rest = length (state.shared.rests me);
-  taken = taken;
+  turns = turns;
+  actor = (run setup turns).actors me;
+  rest = length ((run setup turns).shared.rests me);
 }
+
+-- the caller stands after the turns that it knows, which are the first of these; the others are
+-- turns of other schedulers, which leave it as it stands
+pub record KnowsFront (setup : Setup) (me : ℕ) (turns : List ℕ) (x : Caller) : Type 0 where
+  pub stands : x ≡ caller_of setup me x.turns
+  pub since : List ℕ
+  pub front : turns ≡ x.turns ++ since
+  pub others : All (λ i. i ≢ me) since
 
 -- the scheduler with that number wants the row
 abbrev pub WantsRow : ℕ → Row → Caller → Type 0
@@ -40,14 +48,16 @@ abbrev pub HasEffect : ℕ → Row → Answer → Option Shared → Shared → T
 HasEffect me row got after before = (got ≡ answer me row before)
     × (after ≡ Some (effect me row before))
 
--- the caller stood so in a reached state, in which the row is answered so and what is shared is as
--- it is told, and took its step there
-abbrev pub TookStep : ℕ → Row → Answer → Option Shared → Option Caller → Caller → Type 0
-TookStep me row got shared after before = (state : State) × IsReached before.setup state
-    × (before ≡ caller_of before.setup me state before.taken)
-    × IfSome shared (λ s. s ≡ state.shared)
-    × (got ≡ answer me row state.shared)
-    × (after ≡ Some (caller_of before.setup me (step before.setup state me) (before.taken + 1)))
+-- the caller took its step after these turns, of which it knew all but the last ones, which were
+-- turns of others: there what is shared is as it is told, and the row is answered so. Now it knows
+-- these turns and its own
+pub record TookStep (me : ℕ) (row : Row) (got : Answer) (shared : Option Shared)
+    (after : Option Caller) (before : Caller) : Type 0 where
+  pub turns : List ℕ
+  pub knew : KnowsFront before.setup me turns before
+  pub shares : IfSome shared (λ s. s ≡ (run before.setup turns).shared)
+  pub answered : got ≡ answer me row (run before.setup turns).shared
+  pub is : after ≡ Some (caller_of before.setup me (turns ++ me ∷ []))
 
 -- the row was done, with this answer: on what is shared, where that is told, and by the caller,
 -- where that is told. What isn't told before a call isn't told after it

@@ -29,9 +29,9 @@ use Rattle.ea_machine.specs.declared.stages.Stage.TheVariants as stage
 use Rattle.ea_machine.specs.Courses.{Rests}
 use Rattle.ea_machine.specs.Stops.{left_after}
 use Rattle.ea_machine.specs.Actor.{Actor}
-use Rattle.ea_machine.specs.Machine.{first_actor, run, start}
+use Rattle.ea_machine.specs.Machine.{first_actor, run}
 use Rattle.ea_machine.specs.Setup.{setup_of}
-use Rattle.ea_shared.specs.Calls.{Caller, caller_of}
+use Rattle.ea_shared.specs.Calls.{Caller}
 use Rattle.ea_sched.specs.Acting.{actor_of, is_ended, is_over, rests, setup_for}
 use Rattle.ea_sched.specs.declared.state.Scheduler.{Scheduler}
 use Rattle.ea_table.specs.declared.pass.Pass.{Pass}
@@ -68,13 +68,10 @@ module _ (c : Config) (t : Trace) (id : TableId) (i : ℕ) where
       let at : Ready c t i a None (Some (caller_in v)) = record {
         config = valid;
         trace = made;
-        state = start (setup_of c t);
-        reached = ([], refl);
+        turns = [];
         actor = sym s.actor;
         shares = tt;
-        calls = ap caller_in is.pass.view
-            ∙ ap (caller_of (setup_of c t) i (start (setup_of c t)))
-            (sym (ap (λ (u : View). (caller_in u).taken) is.pass.view));
+        calls = ap caller_in is.pass.view;
         told = inr refl;
       } in
       subst (λ (z : Config × (Trace × ℕ)). Ready z.0 z.1.0 z.1.1 a None (Some (caller_in v)))

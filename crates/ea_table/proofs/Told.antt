@@ -6,18 +6,12 @@ use Rattle.atomic_table.specs.Table.{Me, carried_after}
 use Rattle.ea_model.specs.declared.carriers.Spot.{Spot}
 use Rattle.ea_machine.specs.declared.nodes.Node.{Node}
 use Rattle.ea_machine.specs.declared.nodes.Node.TheVariants.{Block}
-use Rattle.ea_machine.specs.Machine.{run, step, wants}
+use Rattle.ea_machine.specs.Machine.{wants}
 use Rattle.ea_machine.specs.Nodes.{Mark, first_node, spot_named}
 use Rattle.ea_machine.specs.Rows.{Answer, Got, Head, Passes, Rests, Row, TakeLink, TakeTry}
-use Rattle.ea_machine.specs.Setup.{Setup}
 use Rattle.ea_machine.specs.Shared.{Shared}
-use Rattle.ea_machine.specs.State.{State}
-use Rattle.ea_machine.specs.Stops.{count_of}
 use Rattle.ea_machine.specs.Table.{answer, link_answer, link_read}
 use Rattle.ea_shared.specs.Calls.{Did, WantsRow, caller_of}
-use Rattle.ea_sound.proofs.OtherTurns.{actor-since, rest-since}
-use Rattle.ea_sound.proofs.Stopping.{count-append, count-no, count-replicate}
-use Rattle.ea_sound.proofs.TurnLists.{run-snoc}
 use Rattle.ea_word.specs.Codes.{IsCodable, code_of, link_code}
 use Rattle.ea_table.specs.declared.views.Seated.{Seated}
 use Rattle.ea_table.specs.declared.views.View.{View}
@@ -152,63 +146,29 @@ did-yielded me row got v u w k d is = record {
   view = is ∙ ap (λ (x : View). claimed x k) d.view;
 }
 
--- the caller stays as it is while others take turns
-caller-since : (e : Setup) (me taken : ℕ) (turns since : List ℕ) → All (λ i. i ≢ me) since
-    → caller_of e me (run e (turns ++ since)) taken ≡ caller_of e me (run e turns) taken
-caller-since e me taken turns since others =
-    let actor = actor-since e me turns since others in
-    let rest = rest-since e me turns since others in
-    λ k. record { setup = e; number = me; actor = actor k; rest = rest k; taken = taken }
-
--- its turns are those that it knows, and its own
-taken-since : (me : ℕ) (turns since : List ℕ) → All (λ i. i ≢ me) since
-    → count_of me (turns ++ since ++ me ∷ []) ≡ count_of me turns + 1
-taken-since me turns since others = omega (
-  arith,
-  count-append me (turns ++ since) (me ∷ []),
-  count-append me turns since,
-  count-no me since others,
-  count-replicate 1 me,
-)
-
 -- a row of a table that tells the caller
 pub caller-did : (me : ℕ) (row : Row) (got : Answer) (v u : View) → DidRow me row got v u
     → Did me row got None None (Some (caller_in v)) (Some (caller_in u))
 caller-did me row got v u d = record {
   shared = tt;
   shared_untold = λ q. refl;
-  caller = (
-    run (setup_in v) ran,
-    (ran, refl),
-    sym stands,
-    tt,
-    d.answered,
-    ap (λ (x : View). Some (caller_in x)) d.view ∙ ap Some after,
-  );
+  caller = record {
+    turns = ran;
+    knew = record {
+      stands = ap (λ i. caller_of (setup_in v) i (acting v).turns) d.number;
+      since = d.since;
+      front = refl;
+      others = d.others;
+    };
+    shares = tt;
+    answered = d.answered;
+    is = ap (λ (x : View). Some (caller_in x)) d.view
+        ∙ ap (λ i. Some (caller_of (setup_in v) i (ran ++ i ∷ []))) d.number;
+  };
   caller_untold = λ q. absurd (let never : Some (caller_in v) ≡ None = q in cc);
 } where
-  i : ℕ
-  i = (acting v).number
-
   ran : List ℕ
   ran = (acting v).turns ++ d.since
-
-  taken : ℕ
-  taken = count_of i (acting v).turns
-
-  stands : caller_of (setup_in v) me (run (setup_in v) ran) taken ≡ caller_in v
-  stands = caller-since (setup_in v) me taken (acting v).turns d.since d.others
-      ∙ ap (λ j. caller_of (setup_in v) j (run (setup_in v) (acting v).turns) taken) (sym d.number)
-
-  after : caller_in (stepped v d.since d.older d.claim)
-      ≡ caller_of (setup_in v) me (step (setup_in v) (run (setup_in v) ran) me) (taken + 1)
-  after = ap (λ (w : State). caller_of (setup_in v) i w (count_of i (ran ++ i ∷ [])))
-      (run-snoc (setup_in v) ran i)
-      ∙ ap (caller_of (setup_in v) i (step (setup_in v) (run (setup_in v) ran) i))
-      (taken-since i (acting v).turns d.since
-      (subst (λ j. All (λ k. k ≢ j) d.since) (sym d.number) d.others))
-      ∙ ap (λ j. caller_of (setup_in v) j (step (setup_in v) (run (setup_in v) ran) j) (taken + 1))
-      d.number
 
 -- a link was read
 module _ (m n : Me Slot View) (me found : ℕ) (took : Took m found n)

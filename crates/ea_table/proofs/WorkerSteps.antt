@@ -2,14 +2,14 @@
 use Rattle.std.proofs.Common.{◌≡◌, ◌≢◌, ◌⊎◌, inl, inr, ℕ, ◌+◌, ◌<◌, ◌≤◌, Bor, Bool, Option}
 use Rattle.std.proofs.Common.{Some, None, refl, sym, ap, subst, arith}
 use Rattle.std.proofs.Common.{zero, suc, true, false, ◌∙◌, [], ◌∷◌, ◌++◌, length, length-append}
-use Rattle.std.specs.Prelude.{◌||◌}
+use Rattle.std.specs.Prelude.{◌||◌, All, List}
 use Rattle.ea_model.specs.Entries.{Entry}
 use Rattle.ea_model.specs.declared.settings.Config.{Config}
 use Rattle.ea_model.specs.declared.trace.Trace.{Trace}
 use Rattle.ea_model.proofs.Options.{same-some}
 use Rattle.ea_machine.specs.declared.stages.Stage.TheVariants.{Ended}
 use Rattle.ea_machine.specs.Actor.{Actor}
-use Rattle.ea_machine.specs.Machine.{step}
+use Rattle.ea_machine.specs.Machine.{run, step}
 use Rattle.ea_machine.specs.Setup.{Setup, setup_of}
 use Rattle.ea_machine.specs.State.{State}
 use Rattle.ea_shared.specs.Calls.{Caller, caller_of}
@@ -18,15 +18,19 @@ use Rattle.ea_sound.specs.OwnWork.{own_work}
 use Rattle.ea_sound.specs.Turns.{log_after}
 use Rattle.ea_sound.proofs.OwnWork.{own-less}
 use Rattle.ea_sound.proofs.Protocols.{always-protocol}
+use Rattle.ea_sound.proofs.Stopping.{count-append, count-no, count-replicate}
 use Rattle.ea_sound.proofs.TurnLists.{run-snoc}
 use Rattle.ea_sched.specs.declared.state.Scheduler.{Scheduler}
+use Rattle.ea_sched.specs.declared.step.Progress.{Progress}
+use Rattle.ea_sched.specs.declared.step.Progress.TheVariants as progress
 use Rattle.ea_sched.specs.Acting.{actor_of, is_ended, is_over, rests}
 use Rattle.ea_sched.specs.Steps.{IsReady, Ready, Stepped}
-use Rattle.ea_machine.specs.Stops.{less}
+use Rattle.ea_sched.proofs.Doing.{front-stands}
+use Rattle.ea_machine.specs.Stops.{count_of, less}
 use Rattle.ea_model.specs.Trace.{stop_in}
 use Rattle.ea_table.specs.declared.views.View.{View}
 use Rattle.ea_table.specs.Ending.{Counts, IsCounted}
-use Rattle.ea_table.specs.Ruling.{caller_in}
+use Rattle.ea_table.specs.Ruling.{acting, caller_in}
 use Rattle.atomic_table.specs.Seated.{TableId}
 use Rattle.ea_table.specs.declared.pass.Pass.{Pass}
 use Rattle.ea_table.specs.declared.shared.TableShared.{TableShared}
@@ -38,19 +42,21 @@ stepped-less : (c : Config) (t : Trace) (me : ℕ) (a b : Actor) (x y : Caller)
     → Stepped c t me a b None None (Some x) (Some y)
     → own_work c t b y.rest < own_work c t a x.rest
 stepped-less c t me a b x y h goes took =
-    let w : State = took.state in
-    let v : State = step (setup_of c t) w me in
+    let e = setup_of c t in
+    let w : State = run e took.turns in
+    let v : State = step e w me in
     let goes' = subst (λ (d : Actor). d.stage ≢ Ended) (sym took.actor) goes in
-    let now = same-some (Some y) y
-    (caller_of (setup_of c t) me v (x.taken + 1)) refl took.calls.1 in
-    let less = own-less c t h.config h.trace w took.reached me goes' in
+    let now = same-some (Some y) y (caller_of e me (took.turns ++ me ∷ [])) refl took.calls.1 in
+    let less = own-less c t h.config h.trace w (took.turns, refl) me goes' in
     omega (
       arith,
       less,
       ap (λ d. own_work c t d y.rest) took.is,
       ap (λ (z : Caller). own_work c t (v.actors me) z.rest) now,
+      ap (λ (z : State). own_work c t (v.actors me) (length (z.shared.rests me)))
+          (run-snoc e took.turns me),
       ap (λ d. own_work c t d x.rest) took.actor,
-      ap (λ (z : Caller). own_work c t (w.actors me) z.rest) took.calls.0,
+      ap (own_work c t (w.actors me)) (front-stands e me took.turns x took.calls.0).1,
     )
 
 pub step-less : (s t : Scheduler) (x y : Caller) → t.config ≡ s.config → t.trace ≡ s.trace
@@ -82,52 +88,77 @@ some-left s goes = λ over. both (is_ended s.stage) (is_over s.left) goes (ap is
   both true b goes is = absurd cc
   both false b goes is = let no : true ≡ false = sym is ∙ goes in cc
 
+-- the turns of a caller among those that it knows
+abbrev count_in : Caller → ℕ
+count_in x = count_of x.number x.turns
+
+-- they are one more after turns of others and its own
+count-one_more : (me : ℕ) (turns since : List ℕ) → All (λ i. i ≢ me) since
+    → count_of me (turns ++ since ++ me ∷ []) ≡ count_of me turns + 1
+count-one_more me turns since others = omega (
+  arith,
+  count-append me (turns ++ since) (me ∷ []),
+  count-append me turns since,
+  count-no me since others,
+  count-replicate 1 me,
+)
+
 pub step-counted : (s t : Scheduler) (v u : View) → t.config ≡ s.config → t.trace ≡ s.trace
     → t.number ≡ s.number → rests s ≡ false → t.left ≡ less s.left 1
     → Stepped s.config s.trace.now s.number (actor_of s) (actor_of t) None None
     (Some (caller_in v)) (Some (caller_in u))
     → IsCounted v s → IsCounted u t
 step-counted s t v u config trace number goes left took counted =
-    let e = setup_of s.config s.trace.now in
+    let me = s.number in
     let now = same-some (Some (caller_in u)) (caller_in u)
-    (caller_of e s.number (step e took.state s.number) ((caller_in v).taken + 1)) refl took.calls.1
-    in
-    let taken : (caller_in u).taken ≡ (caller_in v).taken + 1 = ap (λ (x : Caller). x.taken) now in
+    (caller_of (setup_of s.config s.trace.now) me (took.turns ++ me ∷ [])) refl took.calls.1 in
+    let knew = took.calls.0 in
+    let before : count_in (caller_in v) ≡ count_of me (acting v).turns = ap count_in knew.stands in
+    let more : count_in (caller_in u) ≡ count_in (caller_in v) + 1 = ap count_in now
+    ∙ ap (λ l. count_of me (l ++ me ∷ [])) knew.front
+    ∙ count-one_more me (acting v).turns knew.since knew.others
+    ∙ ap (λ n. n + 1) (sym before) in
     let stop : t.stop ≡ s.stop = t.stop_is
     ∙ ap (λ (r : Bor Trace). stop_in r.now.stops.items t.number) trace
     ∙ ap (stop_in s.trace.now.stops.items) number ∙ sym s.stop_is in
-    subst (λ o. Counts o (caller_in u).taken t.left) (sym stop)
-    (subst (λ n. Counts s.stop n t.left) (sym taken)
-    (subst (Counts s.stop ((caller_in v).taken + 1)) (sym left)
-    (one-less s.stop s.left (caller_in v).taken counted (some-left s goes))))
+    subst (λ o. Counts o (count_in (caller_in u)) t.left) (sym stop)
+    (subst (λ n. Counts s.stop n t.left) (sym more)
+    (subst (Counts s.stop (count_in (caller_in v) + 1)) (sym left)
+    (one-less s.stop s.left (count_in (caller_in v)) counted (some-left s goes))))
+
+-- by whether there was a step
+pub went-or : {P : Type 0} (p : Progress) → (p ≡ progress.Went → P) → (p ≢ progress.Went → P) → P
+went-or progress.Went went other = went refl
+went-or progress.Ended went other = other (λ q. absurd cc)
+went-or progress.Stopped went other = other (λ q. absurd cc)
 
 -- a step makes at most one entry in the log
 pub step-enters : (s t : Scheduler) (x y : Caller) → IsReady s None (Some x)
     → Stepped s.config s.trace.now s.number (actor_of s) (actor_of t) None None (Some x) (Some y)
     → (length s.log.items ≤ length t.log.items) × (length t.log.items ≤ length s.log.items + 1)
 step-enters s t x y h took =
-    by ((always-protocol s.config s.trace.now h.config h.trace).enters took.reached.0 me me) where
+    by ((always-protocol s.config s.trace.now h.config h.trace).enters took.turns me me) where
       me : ℕ
       me = s.number
 
       e : Setup
       e = setup_of s.config s.trace.now
 
-      before : s.log.items ≡ log_after e took.reached.0 me
+      before : s.log.items ≡ log_after e took.turns me
       before = sym (ap (λ (a : Actor). a.log) took.actor)
-          ∙ ap (λ (w : State). (w.actors me).log) took.reached.1
 
-      after : t.log.items ≡ log_after e (took.reached.0 ++ me ∷ []) me
+      after : t.log.items ≡ log_after e (took.turns ++ me ∷ []) me
       after = ap (λ (a : Actor). a.log) took.is
-          ∙ ap (λ (w : State). ((step e w me).actors me).log) took.reached.1
-          ∙ sym (ap (λ (w : State). (w.actors me).log) (run-snoc e took.reached.0 me))
+          ∙ sym (ap (λ (w : State). (w.actors me).log) (run-snoc e took.turns me))
 
-      by : (log_after e (took.reached.0 ++ me ∷ []) me ≡ log_after e took.reached.0 me)
-          ⊎ ((me ≡ me) × ((entry : Entry) × (log_after e (took.reached.0 ++ me ∷ []) me
-          ≡ log_after e took.reached.0 me ++ entry ∷ []) × Tells e took.reached.0 me entry))
-          → (length s.log.items ≤ length t.log.items) × (length t.log.items ≤ length s.log.items + 1)
+      by : (log_after e (took.turns ++ me ∷ []) me ≡ log_after e took.turns me)
+          ⊎ ((me ≡ me) × ((entry : Entry) × (log_after e (took.turns ++ me ∷ []) me
+          ≡ log_after e took.turns me ++ entry ∷ []) × Tells e took.turns me entry))
+          → (length s.log.items ≤ length t.log.items)
+          × (length t.log.items ≤ length s.log.items + 1)
       by (inl same) =
-          let here : length t.log.items ≡ length s.log.items = ap length (after ∙ same ∙ sym before) in
+          let here : length t.log.items ≡ length s.log.items =
+          ap length (after ∙ same ∙ sym before) in
           (omega (arith, here), omega (arith, here))
       by (inr one) =
           let there : length t.log.items ≡ length s.log.items + 1 =

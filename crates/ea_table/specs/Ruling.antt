@@ -33,7 +33,6 @@ use Rattle.ea_machine.specs.Rows.{Create, SendHome, Clear, Give, TakeTry, Nothin
 use Rattle.ea_machine.specs.Setup.{Setup, setup_of}
 use Rattle.ea_machine.specs.Shared.{Shared}
 use Rattle.ea_machine.specs.State.{State}
-use Rattle.ea_machine.specs.Stops.{count_of}
 use Rattle.ea_machine.specs.Table.{answer}
 use Rattle.ea_shared.specs.Calls.{Caller, caller_of}
 use Rattle.ea_sound.specs.Standing.{IsOlderAt}
@@ -131,8 +130,7 @@ abbrev pub actor_in : View → Actor
 actor_in v = (run (setup_in v) (acting v).turns).actors (acting v).number
 
 abbrev pub caller_in : View → Caller
-caller_in v = caller_of (setup_in v) (acting v).number (run (setup_in v) (acting v).turns)
-    (count_of (acting v).number (acting v).turns)
+caller_in v = caller_of (setup_in v) (acting v).number (acting v).turns
 
 -- the link word of a pushed node, by the word that was found at the head
 abbrev pub older_word : ℕ → ℕ

@@ -1,8 +1,12 @@
-use Rattle.std.proofs.Common.{◌≡◌, sym, ap, ◌∙◌, arith}
+use Rattle.std.proofs.Common.{◌≡◌, Bor, sym, ap, ◌∙◌, subst, arith}
+use Rattle.ea_model.specs.declared.trace.Trace.{Trace}
 use Rattle.ea_machine.specs.Setup.{migration, setup_of}
 use Rattle.ea_sched.specs.declared.step.Progress.TheVariants as progress
+use Rattle.ea_sched.specs.declared.state.Scheduler.{Scheduler}
+use Rattle.ea_table.specs.declared.shared.TableShared.{TableShared}
+use Rattle.ea_table.specs.Ending.{IsCounted}
 use Rattle.ea_table.specs.Ruling.{caller_in}
-use Rattle.ea_table.proofs.WorkerSteps.{step-enters, step-less}
+use Rattle.ea_table.proofs.WorkerSteps.{step-counted, step-enters, step-less, went-or}
 use Rattle.ea_table.proofs.worker.Working.step.Goals as goal
 
 pub step-requires-clause-schedulers : goal.step-requires-clause-schedulers
@@ -42,3 +46,26 @@ returns-clause-entry g c = λ went.
     let is : c.in_ok-progress.progress ≡ progress.Went = grind (arith, went, c.eq.ensures) in
     step-enters w.scheduler c.step.new.self (caller_in w.shared.pass.seat.me.0)
     (caller_in c.step.new.shared.pass.seat.me.0) (c.requires.works.4.ready e.goes.0) (e.step is)
+
+pub returns-clause-works : goal.returns-clause-works
+returns-clause-works g c = λ d t id i at.
+    let w = c.args.self.now in
+    let s = w.scheduler in
+    let new = c.step.new.self in
+    let e = c.in_ok-progress.ensures in
+    let was = at.counted e.goes.0 in
+    record {
+      table = e.stays.0 ∙ at.table;
+      config = e.run.0 ∙ at.config;
+      trace = ap (λ (r : Bor Trace). r.now) e.run.1 ∙ at.trace;
+      number = e.run.2 ∙ at.number;
+      known_config = e.stays.1 ∙ at.known_config;
+      known_trace = e.stays.2 ∙ at.known_trace;
+      ready = λ going. e.ready;
+      counted = λ going. went-or c.in_ok-progress.progress
+          (λ is. step-counted s new w.shared.pass.seat.me.0 c.step.new.shared.pass.seat.me.0
+          e.run.0 e.run.1 e.run.2 (e.went is).0 (e.left is) (e.step is) was)
+          (λ other. subst (λ (z : Scheduler). IsCounted c.step.new.shared.pass.seat.me.0 z)
+          (sym (e.rests other).0)
+          (subst (λ (y : TableShared). IsCounted y.pass.seat.me.0 s) (sym (e.rests other).1) was));
+    }
