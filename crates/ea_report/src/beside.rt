@@ -70,8 +70,8 @@ fn put_texts(text: &mut List<u8>, logs: &[List<u8>]) -> Result<(), OutOfMemory>
     Ok(())
 }
 
-/// The output text, as `print` makes it. Where the logs have many entries, their texts are made side
-/// by side, by as many threads as there are processors. An `Err` says that there was no memory.
+/// The output text, as `print` makes it. Where the logs have many entries, their texts are made
+/// side by side, by as many threads as there are processors. An `Err` says that there was no memory.
 #[tactic(auto, using(std::proofs::lemmas::List::append_assoc))]
 pub fn print_beside<R: Threads + Sync>(
     rt: &R,

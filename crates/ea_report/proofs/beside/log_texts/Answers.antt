@@ -11,4 +11,5 @@ returns g c =
     ∙ ap (λ it. it.slice.now) c.with_min_len.ensures.base ∙ c.par_iter.ensures in
     let (results, chain, made) = c.in_ok-collect.ensures in
     gave_all OutOfMemory (λ log. flat_map entry_text log.items) (λ text. text.items)
-    (λ texts. texts.items) c.args.logs.now c.in_ok-collect.field-0 chain.0 results (chain.1 ∙ slice) chain.2 made
+    (λ texts. texts.items) c.args.logs.now c.in_ok-collect.field-0 chain.0 results
+    (chain.1 ∙ slice) chain.2 made
