@@ -1,4 +1,5 @@
-//! Allocator information: the figures now, since the last report, and ever.
+//! Allocator information: the figures now, since the last report, and ever. Random traces of several
+//! schedulers whose carriers migrate are cases of the program.
 
 ghost use Rattle.std.specs.Prelude.{◌≡◌, ◌++◌, codes, Some, []};
 ghost use Rattle.ea_model.specs.Words.{words};
@@ -6,23 +7,6 @@ ghost use Rattle.ea_trials_machine.specs.Worked.{text_of};
 
 /// What the machine gives for worked words and inputs.
 pub fn reports()
-    ensures four_schedulers { text_of
-        (words (codes "+MHas ageffcbf +MBacul 0 +Musbct 1024 +MHsmbcs 512 +S 4"))
-        (codes "type H\nscheduler 1\nalloc 1 233\nalloc 2 4096\nrealloc 1 3 300\ngive 3 2\n"
-        ++ codes "free 2\ninfo\nscheduler 2\nalloc 4 1048576\ntake 3 1\nfree 3\nscheduler 3\n"
-        ++ codes "alloc 5 64\nscheduler 4\nschedule\nend\n")
-        ≡ Some
-        (codes "scheduler 1\nalloc 1 1 8 32\nalloc 2 1 40 514\nrealloc 1 3 1 554 40 moved done\n"
-        ++ codes "give 3 2\nfree 2 done\n"
-        ++ codes "info mbcs blocks 0 3 3 blocks_size 0 586 586 "
-        ++ codes "carriers 0 1 1 carriers_size 0 65536 65536\n"
-        ++ codes "info sbcs blocks 0 0 0 blocks_size 0 0 0 carriers 0 0 0 carriers_size 0 0 0\n"
-        ++ codes "scheduler 2\nalloc 4 1025 8 131074\ntake 3 got\nfree 3 queued 1\nscheduler 3\n"
-        ++ codes "alloc 5 1 8 10\nscheduler 4\n"
-        ++ codes "carrier 1 multi owner 1 employed 3 base 0 pages 128 allocated 50 largest 64942\n"
-        ++ codes "carrier 1025 single owner 2 employed 2 base 4096 pages 257 "
-        ++ codes "allocated 131074 largest 502\n"
-        ++ codes "total carriers 2 units 197120 live 131084 queued 40 free 65980 header 16\n") }
     ensures always_moving { text_of
         (words (codes "+MHsbct 1 +MHacfml 1 +MHmbsd 1000 +MHacul 0 +MHrsbcmt 100 +MHrmbcmt 10 "
         ++ codes "+MHas aoffcaobf +MHramv true +MMscs 8"))
@@ -320,140 +304,6 @@ pub fn reports()
         ++ codes "carrier 2049 multi owner 3 employed 3 base 10922 pages 4 "
         ++ codes "allocated 20 largest 2020\n"
         ++ codes "total carriers 2 units 7168 live 5020 queued 0 free 2132 header 16\n") }
-    ensures three_under_best_fit { text_of
-        (words (codes "+Mumbcgs 10 +Mulmbcs 32 +Muacul de +Muas bf +S 3 +Musmbcs 16 +Musbct "
-        ++ codes "600"))
-        (codes "type S\nscheduler 1\nalloc 9 29\nalloc 11 2016\nfree 11\nfree 9\nscheduler 2\n"
-        ++ codes "alloc 3 120\ninfo\ngive 3 2\nalloc 10 2808\nalloc 14 3048\nscheduler 3\n"
-        ++ codes "alloc 1 11792\nalloc 2 4352\nalloc 4 16376\nalloc 5 7304\nalloc 6 2481\n"
-        ++ codes "realloc 2 7 5208\nalloc 8 1893\nfree 7\nrealloc 1 12 1264\nrealloc 12 13 152\n"
-        ++ codes "schedule\n2 2*3 2*3076 3*9237 1*262 1*5\nend\n")
-        ≡ Some
-        (codes "scheduler 1\nalloc 9 2049 1722 6\nalloc 11 2049 1728 254\nfree 11 done\n"
-        ++ codes "free 9 done\nscheduler 2\nalloc 3 1025 8 16\n"
-        ++ codes "info mbcs blocks 1 1 1 blocks_size 16 16 16 "
-        ++ codes "carriers 1 1 1 carriers_size 2048 2048 2048\n"
-        ++ codes "info sbcs blocks 0 0 0 blocks_size 0 0 0 carriers 0 0 0 carriers_size 0 0 0\n"
-        ++ codes "give 3 2\nalloc 10 1025 24 352\nalloc 14 1025 376 382\nscheduler 3\n"
-        ++ codes "alloc 1 2049 8 1476\nalloc 2 2049 1484 546\nalloc 4 2050 8 2048\n"
-        ++ codes "alloc 5 2051 8 914\n"
-        ++ codes "alloc 6 2050 2056 312\nrealloc 2 7 2051 922 652 moved done\n"
-        ++ codes "alloc 8 2049 1484 238\n"
-        ++ codes "free 7 done\nrealloc 1 12 2049 1722 160 moved done\n"
-        ++ codes "realloc 12 13 2050 2368 20 moved done\n"
-        ++ codes "carrier 1025 multi owner 2 employed 2 base 5461 pages 4 "
-        ++ codes "allocated 750 largest 1290\n"
-        ++ codes "carrier 2049 multi owner 3 pooled 1 base 10922 pages 4 "
-        ++ codes "allocated 238 largest 1476\n"
-        ++ codes "carrier 2050 multi owner 3 employed 3 base 10926 pages 5 "
-        ++ codes "allocated 2380 largest 172\n"
-        ++ codes "carrier 2051 multi owner 3 employed 3 base 10931 pages 5 "
-        ++ codes "allocated 914 largest 1638\n"
-        ++ codes "total carriers 4 units 9216 live 4282 queued 0 free 4902 header 32\n") }
-    ensures four_under_age_order { text_of
-        (words (codes "+MMscs 8 +MHacfml 4000 +MHmbcgs 10 +S 4 +MHas ageffcaobf +MHrsbcst 78 "
-        ++ codes "+MHacul 100"))
-        (codes "type H\nscheduler 1\nalloc 48 260952\nalloc 49 8528\nalloc 50 232\ngive 50 1\n"
-        ++ codes "free 49\nalloc 53 230192\nrealloc 48 58 103717\nscheduler 2\nalloc 51 32224\n"
-        ++ codes "alloc 52 104\nfree 51\nalloc 55 32\nfree 55\nalloc 57 40\ngive 52 2\n"
-        ++ codes "scheduler 3\nalloc 1 174400\ngive 1 4\nfree 1\nfree 1\ninfo\nalloc 54 19664\n"
-        ++ codes "free 54\nidle\nscheduler 4\nalloc 2 74296\nfree 2\ninfo\ngive 2 2\n"
-        ++ codes "realloc 2 56 40797\ntake 1 1\ngive 56 1\nalloc 59 152793\nschedule\n"
-        ++ codes "4*4100 4*4097 1*12304 2*2 3 2*10 4*9\n2*8708 3*4099 3*7 3*2\nend")
-        ≡ Some
-        (codes "scheduler 1\nalloc 48 1 8 32620\nalloc 49 2 8 1068\nalloc 50 1 32628 30\n"
-        ++ codes "give 50 1\nfree 49 done\nalloc 53 2 8 28776\n"
-        ++ codes "realloc 48 58 2 28784 12966 moved done\nscheduler 2\nalloc 51 1025 8 4030\n"
-        ++ codes "alloc 52 1025 4038 14\nfree 51 done\nalloc 55 1025 8 6\nfree 55 done\n"
-        ++ codes "alloc 57 1025 8 6\ngive 52 2\nscheduler 3\nalloc 1 2049 8 21802\ngive 1 4\n"
-        ++ codes "free 1 skipped\nfree 1 skipped\n"
-        ++ codes "info mbcs blocks 1 1 1 blocks_size 21802 21802 21802 "
-        ++ codes "carriers 1 1 1 carriers_size 32768 32768 32768\n"
-        ++ codes "info sbcs blocks 0 0 0 blocks_size 0 0 0 carriers 0 0 0 carriers_size 0 0 0\n"
-        ++ codes "alloc 54 2049 21810 2460\nfree 54 done\nidle\nscheduler 4\nalloc 2 3073 8 9288\n"
-        ++ codes "free 2 done\n"
-        ++ codes "info mbcs blocks 0 1 1 blocks_size 0 9288 9288 "
-        ++ codes "carriers 0 1 1 carriers_size 0 32768 32768\n"
-        ++ codes "info sbcs blocks 0 0 0 blocks_size 0 0 0 carriers 0 0 0 carriers_size 0 0 0\n"
-        ++ codes "give 2 2 skipped\nrealloc 2 56 skipped\ntake 1 absent 1\ngive 56 1 skipped\n"
-        ++ codes "alloc 59 1 8 19102\n"
-        ++ codes "carrier 1 multi owner 1 employed 4 base 0 pages 64 "
-        ++ codes "allocated 19132 largest 13518\n"
-        ++ codes "carrier 2 multi owner 1 employed 1 base 64 pages 186 "
-        ++ codes "allocated 41742 largest 53482\n"
-        ++ codes "carrier 1025 multi owner 2 employed 2 base 512 pages 64 "
-        ++ codes "allocated 20 largest 28716\n"
-        ++ codes "carrier 2049 multi owner 3 pooled 3 base 1024 pages 64 "
-        ++ codes "allocated 21802 largest 10958\n"
-        ++ codes "total carriers 4 units 193536 live 82696 queued 0 free 110808 header 32\n") }
-    ensures two_in_address_order { text_of
-        (words (codes "+MHsmbcs 64 +S 02 +MHas aoff +MHlmbcs 128 +MTrsbcst 1 +MHmbsd 1 +MMscs "
-        ++ codes "2"))
-        (codes "type H\nscheduler 1\nalloc 1 51301\nfree 1\nfree 1\nalloc 2 9600\nfree 2\n"
-        ++ codes "free 2\nalloc 3 101\ninfo\ngive 3 2\nalloc 8 15365\nalloc 9 1544\nalloc 11 49\n"
-        ++ codes "free 11\nscheduler 2\nalloc 4 55481\nalloc 5 152\n  \nalloc 6 17401\n"
-        ++ codes "alloc 7 1909\nalloc 10 2657\nalloc 76 232\nschedule\nend\n")
-        ≡ Some
-        (codes "scheduler 1\nalloc 1 1 8 6414\nfree 1 done\nfree 1 skipped\nalloc 2 1 8 1202\n"
-        ++ codes "free 2 done\nfree 2 skipped\nalloc 3 1 8 14\n"
-        ++ codes "info mbcs blocks 1 1 1 blocks_size 14 6414 6414 "
-        ++ codes "carriers 1 1 1 carriers_size 8192 8192 8192\n"
-        ++ codes "info sbcs blocks 0 0 0 blocks_size 0 0 0 carriers 0 0 0 carriers_size 0 0 0\n"
-        ++ codes "give 3 2\nalloc 8 1 22 1922\nalloc 9 1 1944 194\nalloc 11 1 2138 8\n"
-        ++ codes "free 11 done\nscheduler 2\nalloc 4 1025 8 6938\nalloc 5 1025 6946 20\n"
-        ++ codes "alloc 6 1 2138 2178\nalloc 7 1 4316 240\nalloc 10 1 4556 334\n"
-        ++ codes "alloc 76 1 4890 30\n"
-        ++ codes "carrier 1 multi owner 1 employed 2 base 0 pages 16 allocated 4912 largest 3272\n"
-        ++ codes "carrier 1025 multi owner 2 employed 2 base 256 pages 16 "
-        ++ codes "allocated 6958 largest 1226\n"
-        ++ codes "total carriers 2 units 16384 live 11870 queued 0 free 4498 header 16\n") }
-    ensures three_under_address_fit { text_of
-        (words (codes "+MTrsbcmt 66 +MHramv false +S 3 +MHas af +MHrsbcst 0 +MHsmbcs 12 "
-        ++ codes "+MHlmbcs 20 +MHasbcst 0 +MHmbsd 1"))
-        (codes "type H\nscheduler 1\nalloc 1 33\nfree 1\nalloc 6 7568\ninfo\nscheduler 2\n"
-        ++ codes "alloc 3 248\nrealloc 3 4 0\nscheduler 3\nalloc 2 280\nfree 2\nfree 2\n"
-        ++ codes "alloc 5 233\ninfo\nschedule\n3*28 2*3096 3*4108 1*3080 1*12\n1\n1*3076 1*8\n"
-        ++ codes "end\n")
-        ≡ Some
-        (codes "scheduler 1\nalloc 1 1 8 6\nfree 1 done\nalloc 6 1 8 948\n"
-        ++ codes "info mbcs blocks 1 1 1 blocks_size 948 948 948 "
-        ++ codes "carriers 1 1 1 carriers_size 1536 1536 1536\n"
-        ++ codes "info sbcs blocks 0 0 0 blocks_size 0 0 0 carriers 0 0 0 carriers_size 0 0 0\n"
-        ++ codes "scheduler 2\nalloc 3 1025 8 32\nrealloc 3 4 1025 40 6 moved done\nscheduler 3\n"
-        ++ codes "alloc 2 1025 46 36\nfree 2 done\nfree 2 skipped\nalloc 5 1025 8 32\n"
-        ++ codes "info mbcs blocks 2 2 2 blocks_size 38 42 42 "
-        ++ codes "carriers 1 1 1 carriers_size 1536 1536 1536\n"
-        ++ codes "info sbcs blocks 0 0 0 blocks_size 0 0 0 carriers 0 0 0 carriers_size 0 0 0\n"
-        ++ codes "carrier 1 multi owner 1 employed 1 base 0 pages 3 allocated 948 largest 580\n"
-        ++ codes "carrier 1025 multi owner 2 employed 3 base 5461 pages 3 "
-        ++ codes "allocated 38 largest 1490\n"
-        ++ codes "total carriers 2 units 3072 live 986 queued 0 free 2070 header 16\n") }
-    ensures four_in_address_order { text_of
-        (words (codes "+MLrsbcst 1 +S 0000000004 +Muas aoff +Muacul 100 +MMscs 1 +Muacfml 64 "
-        ++ codes "+Musmbcs 4 +Mulmbcs 1"))
-        (codes "type H\nscheduler 1\nalloc 1 1073\ngive 1 4\nrealloc 1 8 113\nscheduler 2\n"
-        ++ codes "alloc 3 232\ngive 3 3\nfree 3\nfree 3\ninfo\nalloc 6 3533\nalloc 7 45\ninfo\n"
-        ++ codes "alloc 9 233\nfree 7\nscheduler 3\nalloc 2 960\nalloc 4 32\nfree 4\nalloc 5 1253\n"
-        ++ codes "give 2 1\nscheduler 4\nschedule\n2*8208 4*1 3*10 3*1017 1*4102 3*256\n3*264\n"
-        ++ codes "end\n")
-        ≡ Some
-        (codes "scheduler 1\nalloc 1 1 8 136\ngive 1 4\nrealloc 1 8 skipped\nscheduler 2\n"
-        ++ codes "alloc 3 1025 8 30\ngive 3 3\nfree 3 skipped\nfree 3 skipped\n"
-        ++ codes "info mbcs blocks 1 1 1 blocks_size 30 30 30 "
-        ++ codes "carriers 1 1 1 carriers_size 512 512 512\n"
-        ++ codes "info sbcs blocks 0 0 0 blocks_size 0 0 0 carriers 0 0 0 carriers_size 0 0 0\n"
-        ++ codes "alloc 6 1025 38 444\nalloc 7 1025 482 8\n"
-        ++ codes "info mbcs blocks 3 3 3 blocks_size 482 482 482 "
-        ++ codes "carriers 1 1 1 carriers_size 512 512 512\n"
-        ++ codes "info sbcs blocks 0 0 0 blocks_size 0 0 0 carriers 0 0 0 carriers_size 0 0 0\n"
-        ++ codes "alloc 9 1026 8 32\nfree 7 done\nscheduler 3\nalloc 2 2049 8 122\n"
-        ++ codes "alloc 4 2049 130 6\nfree 4 done\nalloc 5 2049 130 158\ngive 2 1\nscheduler 4\n"
-        ++ codes "carrier 1 multi owner 1 employed 1 base 0 pages 1 allocated 136 largest 368\n"
-        ++ codes "carrier 1025 multi owner 2 pooled 2 base 64 pages 1 allocated 474 largest 30\n"
-        ++ codes "carrier 1026 multi owner 2 employed 2 base 65 pages 1 allocated 32 largest 472\n"
-        ++ codes "carrier 2049 multi owner 3 employed 3 base 128 pages 1 "
-        ++ codes "allocated 280 largest 224\n"
-        ++ codes "total carriers 4 units 2048 live 922 queued 0 free 1094 header 32\n") }
     ensures both_blocks_observed { text_of (words (codes "+MHramv true"))
         (codes "type H\nscheduler 1\nalloc 1 100\nrealloc 1 2 100\ninfo\nschedule\nend\n")
         ≡ Some

@@ -6,10 +6,6 @@ use Rattle.ea_machine.specs.Table.{answer, effect}
 use Rattle.ea_machine.specs.Machine.{after, step_at}
 use Rattle.ea_trials_machine.proofs.reports.reports.Goals as goal
 
-pub returns-clause-four_schedulers : goal.returns-clause-four_schedulers
-unfolding digits unused_from bin_of powers answer effect after step_at
-returns-clause-four_schedulers c = refl
-
 pub returns-clause-always_moving : goal.returns-clause-always_moving
 unfolding digits unused_from bin_of powers answer effect after step_at
 returns-clause-always_moving c = refl
@@ -65,26 +61,6 @@ returns-clause-three_always_moving c = refl
 pub returns-clause-three_of_temporary_blocks : goal.returns-clause-three_of_temporary_blocks
 unfolding digits unused_from bin_of powers answer effect after step_at
 returns-clause-three_of_temporary_blocks c = refl
-
-pub returns-clause-three_under_best_fit : goal.returns-clause-three_under_best_fit
-unfolding digits unused_from bin_of powers answer effect after step_at
-returns-clause-three_under_best_fit c = refl
-
-pub returns-clause-four_under_age_order : goal.returns-clause-four_under_age_order
-unfolding digits unused_from bin_of powers answer effect after step_at
-returns-clause-four_under_age_order c = refl
-
-pub returns-clause-two_in_address_order : goal.returns-clause-two_in_address_order
-unfolding digits unused_from bin_of powers answer effect after step_at
-returns-clause-two_in_address_order c = refl
-
-pub returns-clause-three_under_address_fit : goal.returns-clause-three_under_address_fit
-unfolding digits unused_from bin_of powers answer effect after step_at
-returns-clause-three_under_address_fit c = refl
-
-pub returns-clause-four_in_address_order : goal.returns-clause-four_in_address_order
-unfolding digits unused_from bin_of powers answer effect after step_at
-returns-clause-four_in_address_order c = refl
 
 pub returns-clause-both_blocks_observed : goal.returns-clause-both_blocks_observed
 unfolding digits unused_from bin_of powers answer effect after step_at
