@@ -1,6 +1,5 @@
 pub mod Following
 pub mod Keeping
-pub mod Merging
 pub mod Owned
 pub mod Reallocating
 pub mod Migrating

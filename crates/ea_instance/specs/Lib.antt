@@ -1,5 +1,4 @@
 pub mod Own
-pub mod Merging
 pub mod Kept
 pub mod Answers
 pub mod Hands

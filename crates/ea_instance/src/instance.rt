@@ -1,7 +1,7 @@
 //! The instance and its calls.
-ghost use Rattle.std.specs.Prelude.{◌≡◌, [], ◌≢◌, ℕ, ◌+◌, ◌*◌, ◌/◌, ◌%◌, ◌^◌, ◌<◌, ◌≤◌, ◌++◌, max};
+ghost use Rattle.std.specs.Prelude.{◌≡◌, [], ◌≢◌, ℕ, ◌+◌, ◌*◌, ◌/◌, ◌%◌, ◌^◌, ◌<◌, ◌≤◌, max};
 ghost use Rattle.std.specs.Prelude.{true, false, Some, None, Ok, Err, Result, All, IsNone, ◌↔◌};
-ghost use Rattle.std.specs.Prelude.{IsSome, IfSome, IfOk, List as Items, OnOk, OnErr, map, sum_by};
+ghost use Rattle.std.specs.Prelude.{IsSome, IfSome, IfOk, List as Items};
 ghost use Rattle.std.specs.Prelude.{option_map};
 ghost use Rattle.ea_model.specs.declared.carriers.Kind.TheVariants.{Multi, Single};
 ghost use Rattle.ea_model.specs.declared.carriers.Spot.{Spot};
@@ -10,7 +10,7 @@ ghost use Rattle.ea_model.specs.declared.reallocation.Decision.TheVariants.{Move
 ghost use Rattle.ea_model.specs.declared.units.TheConstants.{MAX_PAGES, MAX_PERCENT};
 ghost use Rattle.ea_model.specs.declared.units.TheConstants.{MAX_SCHEDULERS, MAX_UNITS, MIN_BLOCK};
 ghost use Rattle.ea_model.specs.declared.units.TheConstants.{NUMBERS};
-ghost use Rattle.ea_model.specs.Content.{Content, named, free_units, gaps_of};
+ghost use Rattle.ea_model.specs.Content.{Content, named};
 ghost use Rattle.ea_model.specs.declared.entries.NoCarrier.TheVariants.{Numbers, Space};
 ghost use Rattle.ea_model.specs.Region.{runs};
 ghost use Rattle.ea_model.specs.Settings.{IsValid};
@@ -33,16 +33,16 @@ ghost use Rattle.ea_model.specs.Employment.{dismissing, disowning, employing};
 ghost use Rattle.ea_laws.specs.Spots.{AllUsed, FindsNone, HaveSameBlocks, IsOther, IsPlaced};
 
 use crate::layouts::{Layout, multi_layout, single_layout};
-use crate::lines::{put_merged, single_line};
+use crate::lines::single_line;
 use crate::own::OwnCarriers;
 use ea_employed::strategies::order_of;
 use ea_employed::{Carriers, Employed, Singles};
 use ea_mbc::{Mbc, Spare};
 use ea_model::keyed::item_of;
 use ea_model::{
-    Block, CarrierLine, CarrierPlan, Decision, Figures, HEADER_UNITS, Kind, List, NUMBERS,
-    NoCarrier, OutOfMemory, PAGE_UNITS, Place, Settings, Spot, UNIT_BYTES, Where, first_number,
-    least_pages, pages_for,
+    Block, CarrierLine, CarrierPlan, Decision, Figures, HEADER_UNITS, Kind, NUMBERS, NoCarrier,
+    OutOfMemory, PAGE_UNITS, Place, Settings, Spot, UNIT_BYTES, Where, first_number, least_pages,
+    pages_for,
 };
 use ea_resize::decide;
 use ea_sbc::Sbc;
@@ -132,15 +132,6 @@ fn is_due(settings: Settings, figures: Figures, multi: &Employed) -> bool
         )
         && is_sparse(settings, figures.blocks_size, figures.carriers_size)
         && u64::from(settings.acfml) <= u64::from(UNIT_BYTES) * u64::from(multi.largest())
-}
-
-/// The units that blocks and headers leave of the carriers.
-fn free_of(figures: Figures) -> u64
-    requires { figures.blocks_size + HEADER_UNITS * figures.carriers ≤ figures.carriers_size }
-    ensures { result + figures.blocks_size + HEADER_UNITS * figures.carriers
-        ≡ figures.carriers_size }
-{
-    figures.carriers_size - figures.blocks_size - u64::from(HEADER_UNITS) * figures.carriers
 }
 
 impl Instance {
@@ -265,20 +256,6 @@ impl Instance {
         }
     }
 
-    /// Adds the lines of all carriers that it employs, by rising number. Where there is no memory,
-    /// the list stays as it was.
-    pub fn put_lines(&self, lines: &mut List<CarrierLine>) -> Result<(), OutOfMemory>
-        ensures ok { OnOk result (lines.new.items
-            ≡ lines.old.items ++ map (carrier_line self.now.number) (employed self.now)) }
-        ensures err { OnErr result (lines.new.items ≡ lines.old.items) }
-    {
-        let multis = self.carriers.as_slice();
-        let singles = self.singles.as_slice();
-        lines.reserve(multis.len() + singles.len())?;
-        put_merged(self.number, multis, singles, lines);
-        Ok(())
-    }
-
     /// Blocks and carriers of its main and multiblock carriers, and their units.
     pub fn multi_figures(&self) -> Figures
         ensures figures { result ≡ instances.figures self.now.contents }
@@ -299,13 +276,6 @@ impl Instance {
             × (result.carriers_size ≤ MAX_UNITS * (NUMBERS * MAX_SCHEDULERS)) }
     {
         self.singles.figures()
-    }
-
-    /// The units of all gaps of its carriers.
-    pub fn free_units(&self) -> u64
-        ensures { result ≡ sum_by (λ c. free_units (gaps_of c)) (employed self.now) }
-    {
-        free_of(self.carriers.figures()) + free_of(self.singles.figures())
     }
 
     /// Places a block of `need` units in the gap that its strategy chooses. None, and nothing

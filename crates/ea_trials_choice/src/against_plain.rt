@@ -6,8 +6,8 @@ ghost use Rattle.ea_model.specs.Settings.{IsValid};
 use crate::plain::{NoChoice, choice};
 use ea_instance::Instance;
 use ea_model::{
-    BlockAt, Candidate, CarrierPlan, Gap, Kind, List, MAX_SEARCH_DEPTH, OutOfMemory, PAGE_UNITS,
-    Place, Settings, Spot, Strategy,
+    BlockAt, Candidate, CarrierPlan, Gap, Kind, MAX_SEARCH_DEPTH, OutOfMemory, PAGE_UNITS, Place,
+    Settings, Spot, Strategy,
 };
 use ea_trials_carrier::PlainCarrier;
 use std::alloc::Global;
@@ -287,9 +287,8 @@ impl Sides {
 
     // Compares the lines of all carriers.
     fn compare(&self, rt: &impl Abort, alloc: Global) -> Result<(), NoChoice> {
-        let mut lines = List::new(alloc);
-        self.instance.put_lines(&mut lines)?;
-        assert_eq!(rt; lines.len(), self.carriers.len());
+        let figures = self.instance.multi_figures();
+        assert_eq!(rt; figures.carriers, self.carriers.len() as u64);
         for carrier in &self.carriers {
             let line = self.instance.carrier_line(carrier.number());
             let line = line.expect(rt, "the carrier is there");

@@ -6,8 +6,8 @@ ghost use Rattle.ea_model.specs.Units.{pages_for};
 use ea_instance::{CarrierPlan, Instance};
 use ea_mbc::Mbc;
 use ea_model::{
-    Block, CarrierLine, Figures, Inner, Kind, List, NoCarrier, OutOfMemory, Place, Settings, Spot,
-    Standing, Strategy,
+    Block, CarrierLine, Figures, Inner, Kind, NUMBERS, NoCarrier, OutOfMemory, Place, Settings,
+    Spot, Standing, Strategy,
 };
 use std::alloc::Global;
 use std::process::Abort;
@@ -54,9 +54,9 @@ impl Trial {
     // - `block_at CARRIER OFFSET`: the name and size of the block there;
     // - `employs CARRIER`;
     // - `line CARRIER`: the line of an employed carrier, its kind, owner, employer, first page, pages,
-    //   units of blocks and units of the largest gap; `lines`: the numbers of all lines;
+    //   units of blocks and units of the largest gap; `lines`: the numbers of all that are employed;
     // - `created`: how many carriers were created;
-    // - `free_units`;
+    // - `free_units`: the units that blocks and headers leave of the carriers;
     // - `multi_figures`, `single_figures`: blocks and their units, carriers and theirs.
     fn steps(&mut self, rt: &impl Abort, alloc: Global, lines: &str) -> Result<(), OutOfMemory> {
         for line in lines.lines() {
@@ -90,7 +90,7 @@ impl Trial {
                 let (need, name) = (number_at(rest, 2), number_at(rest, 3));
                 self.resize(rt, alloc, spot(first, second), need, name)
             }
-            "lines" => self.lines(rt, alloc),
+            "lines" => self.lines(alloc),
             "plan" => self.plan(rt, alloc, first, false),
             "plan_single" => self.plan(rt, alloc, first, true),
             _ => self.tell(alloc, name, first, second),
@@ -111,25 +111,35 @@ impl Trial {
             "line" => line_text(alloc, self.instance.carrier_line(first)),
             "employs" => yes_or_no(alloc, self.instance.employs(first)),
             "created" => text_of(alloc, "number", &[u64::from(self.instance.created())]),
-            "free_units" => text_of(alloc, "number", &[self.instance.free_units()]),
+            "free_units" => text_of(alloc, "number", &[self.free_units()]),
             "multi_figures" => figures_text(alloc, self.instance.multi_figures()),
             "single_figures" => figures_text(alloc, self.instance.single_figures()),
             _ => text_of(alloc, "unknown", &[]),
         }
     }
 
-    // The numbers of all lines, each of which is the one that is told for its number.
-    fn lines(&self, rt: &impl Abort, alloc: Global) -> Result<String, OutOfMemory> {
-        let mut lines = List::new(alloc);
-        self.instance.put_lines(&mut lines)?;
+    // The numbers of the carriers that it employs.
+    fn lines(&self, alloc: Global) -> Result<String, OutOfMemory> {
         let mut numbers = Vec::new(alloc);
-        for line in lines.as_slice() {
-            let put = line_text(alloc, Some(*line))?;
-            let told = line_text(alloc, self.instance.carrier_line(line.number))?;
-            assert!(rt; told.as_str() == put.as_str(), "{put}");
-            numbers.push(u64::from(line.number))?;
+        for number in 1..NUMBERS + 1 {
+            if let Some(line) = self.instance.carrier_line(number) {
+                numbers.push(u64::from(line.number))?;
+            }
         }
         text_of(alloc, "numbers", &numbers)
+    }
+
+    // The units that blocks and headers leave of the carriers.
+    fn free_units(&self) -> u64 {
+        let multi = self.instance.multi_figures();
+        let single = self.instance.single_figures();
+        let carriers = multi.carriers.saturating_add(single.carriers);
+        let blocks = multi.blocks_size.saturating_add(single.blocks_size);
+        multi
+            .carriers_size
+            .saturating_add(single.carriers_size)
+            .saturating_sub(blocks)
+            .saturating_sub(carriers.saturating_mul(8))
     }
 
     fn plan(
