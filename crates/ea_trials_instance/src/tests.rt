@@ -53,8 +53,9 @@ impl Trial {
     // - `resize CARRIER OFFSET NEED NAME`: the units that the block has then, or that it moves;
     // - `block_at CARRIER OFFSET`: the name and size of the block there;
     // - `employs CARRIER`;
-    // - `line CARRIER`: the line of an employed carrier, its kind, owner, employer, first page, pages,
-    //   units of blocks and units of the largest gap; `lines`: the numbers of all that are employed;
+    // - `line CARRIER`: the line of an employed carrier, its kind, owner, employer, first page,
+    //   pages, units of blocks and units of the largest gap; `lines`: the numbers of all that are
+    //   employed;
     // - `created`: how many carriers were created;
     // - `free_units`: the units that blocks and headers leave of the carriers;
     // - `multi_figures`, `single_figures`: blocks and their units, carriers and theirs.
