@@ -18,7 +18,6 @@ use Rattle.ea_machine.specs.declared.stages.Stage.TheVariants.{Ended, Ready}
 use Rattle.ea_machine.specs.Completion.{work}
 use Rattle.ea_machine.specs.Machine.{run, step}
 use Rattle.ea_machine.specs.Setup.{Setup, setup_of}
-use Rattle.ea_machine.specs.Shared.{put}
 use Rattle.ea_machine.specs.State.{State}
 use Rattle.ea_sound.specs.Entries.{Makes, Tells}
 use Rattle.ea_sound.specs.MachineLaws.{Protocol}
@@ -33,7 +32,7 @@ use Rattle.ea_contents.specs.declared.access.AccessEntry.{AccessEntry}
 use Rattle.ea_contents.specs.Entering.{entry_of, lists_by}
 use Rattle.ea_contents.specs.Model.{Moment, Script, advanced, completing, done, ending, finishing}
 use Rattle.ea_contents.specs.Model.{later_accesses, past_after, play_on, turn, turns_left, waiting}
-use Rattle.ea_contents.proofs.Moments.{after_access, is-less, not-less, play-append, turn-made}
+use Rattle.ea_contents.proofs.Moments.{after_access, not-less, play-append, turn-made}
 use Rattle.ea_contents.proofs.Moments.{turn-step}
 
 module _ (e : Setup) (script : Script) where

@@ -1,7 +1,7 @@
 -- What comes of writes and reads in a session.
 use Rattle.std.proofs.Common.{◌≡◌, ℕ, ◌+◌, ◌<◌, ◌≤◌, List, Bool, true, false, refl, sym, ap, ◌∙◌}
 use Rattle.std.proofs.Common.{subst, arith}
-use Rattle.std.specs.Prelude.{IfSome, Option, None, Some, get_or, is_some, nat_lt}
+use Rattle.std.specs.Prelude.{get_or, nat_lt}
 use Rattle.ea_model.specs.declared.settings.Config.{Config}
 use Rattle.ea_model.specs.declared.trace.Trace.{Trace}
 use Rattle.ea_machine.specs.Machine.{run}
@@ -14,7 +14,7 @@ use Rattle.ea_contents.specs.declared.session.Session.{Session}
 use Rattle.ea_contents.specs.Entering.{lists_if, read_entry, write_entry}
 use Rattle.ea_contents.specs.Model.{holds, is_within}
 use Rattle.ea_contents.specs.Playing.{HasMade, TellsOf}
-use Rattle.ea_contents.specs.Sessions.{HasWord, HasWritten, IsSession, SessionTells, StandsWith}
+use Rattle.ea_contents.specs.Sessions.{HasWord, HasWritten, SessionTells, StandsWith}
 
 below : (n k : ℕ) → n < k → nat_lt n k ≡ true
 below n k less = grind (arith, less)

@@ -1,32 +1,22 @@
 -- Moments of an input with writes and reads, and its turns of all kinds.
-use Rattle.std.proofs.Common.{◌≡◌, ◌≢◌, ◌⊎◌, ℕ, zero, suc, ◌+◌, ◌<◌, ◌≤◌, List, [], ◌∷◌, ◌++◌}
-use Rattle.std.proofs.Common.{Bool, true, false, ◌&&◌, refl, sym, ap, ◌∙◌, subst, inl, inr, arith}
-use Rattle.std.proofs.Common.{length}
-use Rattle.std.specs.Prelude.{Option, None, Some, drop, get_or, nat_lt, not, replicate}
-use Rattle.std.proofs.lemmas.Bool.{cases_Bool}
-use Rattle.std.proofs.lemmas.List.{append-nil, length-append, length_push}
-use Rattle.ea_model.specs.declared.operations.Op.{Op}
-use Rattle.ea_model.specs.Content.{Content}
-use Rattle.ea_machine.specs.declared.stages.Stage.{Stage}
-use Rattle.ea_machine.specs.declared.stages.Stage.TheVariants.{Begin, Routed, Collecting, Searching}
-use Rattle.ea_machine.specs.declared.stages.Stage.TheVariants.{Fetching, Creating, Giving, Taking}
-use Rattle.ea_machine.specs.declared.stages.Stage.TheVariants.{Ended, Ready}
-use Rattle.ea_machine.specs.Completion.{work}
-use Rattle.ea_machine.specs.Machine.{run, run_on, start, step}
+use Rattle.std.proofs.Common.{◌≡◌, ◌≢◌, ℕ, zero, suc, ◌+◌, List, [], ◌∷◌, ◌++◌}
+use Rattle.std.proofs.Common.{Bool, true, false, ◌&&◌, refl, sym, ap, ◌∙◌, arith}
+use Rattle.std.specs.Prelude.{Option, None, Some, get_or, nat_lt, not, replicate}
+use Rattle.ea_machine.specs.declared.stages.Stage.TheVariants.{Ended}
+use Rattle.ea_machine.specs.Machine.{run_on, step}
 use Rattle.ea_machine.specs.Setup.{Setup}
 use Rattle.ea_machine.specs.Shared.{put}
 use Rattle.ea_machine.specs.State.{State}
-use Rattle.ea_sound.specs.Entries.{EntersOne, LogsEach, Makes}
-use Rattle.ea_sound.proofs.Totals.{put-here, put-other}
-use Rattle.ea_sound.proofs.TurnLists.{run-append, run-snoc, step-ended, step-other}
+use Rattle.ea_sound.proofs.Totals.{put-other}
+use Rattle.ea_sound.proofs.TurnLists.{run-append, step-ended}
 use Rattle.ea_contents.specs.declared.access.Access.{Access}
 use Rattle.ea_contents.specs.declared.access.Access.TheVariants.{Read, Write}
 use Rattle.ea_contents.specs.declared.access.AccessEntry.{AccessEntry}
 use Rattle.ea_contents.specs.declared.access.Making.{Making}
-use Rattle.ea_contents.specs.Model.{Moment, Script, accessed, advanced, completing, done, ending}
-use Rattle.ea_contents.specs.Model.{finishing, holds, if_new, is_within, later_accesses, lists_after}
+use Rattle.ea_contents.specs.Model.{Moment, Script, accessed, advanced, done}
+use Rattle.ea_contents.specs.Model.{holds, if_new, is_within, lists_after}
 use Rattle.ea_contents.specs.Model.{lists_made, made, made_by, making_of, past_after, play_on}
-use Rattle.ea_contents.specs.Model.{reading, steps_by, steps_in, turn, turn_by, turns_left}
+use Rattle.ea_contents.specs.Model.{reading, steps_by, steps_in, turn, turn_by}
 use Rattle.ea_contents.specs.Model.{units_made, waiting, writing}
 use Rattle.ea_contents.specs.Entering.{entry_of, lists_by, lists_if, read_entry, write_entry}
 

@@ -1,26 +1,23 @@
 -- A play goes on: by one turn of a scheduler, by more of them, and to the end.
 use Rattle.std.proofs.Common.{◌≡◌, ◌≢◌, ◌⊎◌, ℕ, zero, suc, ◌+◌, ◌-◌, ◌<◌, ◌≤◌, List, [], ◌∷◌}
-use Rattle.std.proofs.Common.{◌++◌, true, false, refl, sym, ap, ◌∙◌, subst, inl, inr, arith, length}
+use Rattle.std.proofs.Common.{◌++◌, true, refl, sym, ap, ◌∙◌, subst, inl, inr, arith, length}
 use Rattle.std.proofs.Common.{get_or, set}
-use Rattle.std.specs.Prelude.{Bool, Option, None, Some, drop, flat_map, map, nat_lt, replicate}
-use Rattle.std.specs.Prelude.{slice_get, take}
+use Rattle.std.specs.Prelude.{Option, None, Some, drop, map, nat_lt, replicate}
+use Rattle.std.specs.Prelude.{slice_get}
 use Rattle.std.specs.List.{range_with_len}
-use Rattle.std.proofs.lemmas.Bool.{cases_eq, cases_lt}
+use Rattle.std.proofs.lemmas.Bool.{cases_eq}
 use Rattle.std.proofs.lemmas.Grind.{get_or-set_at}
 use Rattle.std.proofs.lemmas.List.{get_or-map, get_or-set_other, length-map, length-set, length_push}
 use mathlib.Core.Path.{fun_ext}
-use Rattle.ea_model.specs.Entries.{Entry}
 use Rattle.ea_model.specs.declared.settings.Config.{Config}
 use Rattle.ea_model.specs.declared.trace.Trace.{Trace}
-use Rattle.ea_model.specs.Content.{Content}
 use Rattle.ea_model.specs.Lists.{Items}
 use Rattle.ea_model.specs.Settings.{IsValidConfig}
 use Rattle.ea_model.specs.Trace.{IsScheduler, IsValidTrace, stop_in}
-use Rattle.ea_machine.specs.declared.stages.Stage.{Stage}
 use Rattle.ea_machine.specs.declared.stages.Stage.TheVariants.{Ended}
 use Rattle.ea_machine.specs.Actor.{Actor}
 use Rattle.ea_machine.specs.Completion.{work}
-use Rattle.ea_machine.specs.Machine.{run, run_on, start, step}
+use Rattle.ea_machine.specs.Machine.{run, step}
 use Rattle.ea_machine.specs.Outcome.{outcome, outcome_with}
 use Rattle.ea_machine.specs.Setup.{Setup, setup_of}
 use Rattle.ea_machine.specs.Shared.{put}
@@ -37,11 +34,11 @@ use Rattle.ea_contents.specs.declared.access.AccessEntry.{AccessEntry}
 use Rattle.ea_contents.specs.declared.input.Placed.{Placed}
 use Rattle.ea_contents.specs.declared.playing.Play.{Play}
 use Rattle.ea_contents.specs.Entering.{entry_of, lists_by}
-use Rattle.ea_contents.specs.Model.{Moment, Script, advanced, complete, completing, done, finishing}
-use Rattle.ea_contents.specs.Model.{lists_after, opening, past_after, play, play_on, steps_in, turn}
+use Rattle.ea_contents.specs.Model.{Moment, Script, advanced, done}
+use Rattle.ea_contents.specs.Model.{lists_after, past_after, play_on, turn}
 use Rattle.ea_contents.specs.Model.{waiting}
 use Rattle.ea_contents.specs.Placing.{IsAt, first_of, next_at}
-use Rattle.ea_contents.specs.Playing.{HasMade, HasPlayed, IsPlay, PlayHas, PlaysAs, TellsOf}
+use Rattle.ea_contents.specs.Playing.{HasMade, PlayHas, PlaysAs, TellsOf}
 use Rattle.ea_contents.specs.Playing.{left_in, left_to, turns_to}
 use Rattle.ea_contents.specs.Script.{list_for, script_of}
 use Rattle.ea_contents.specs.Sessions.{HasStepped, StandsWith}

@@ -1,6 +1,6 @@
 -- What a definition answers for a trace with writes and reads is valid and has the same text.
-use Rattle.std.proofs.Common.{◌≡◌, ℕ, zero, suc, ◌+◌, ◌≤◌, ◌&&◌, ◌++◌, true, List, [], ◌∷◌, length}
-use Rattle.std.proofs.Common.{map, refl, sym, ap, subst, ◌∙◌, append_assoc}
+use Rattle.std.proofs.Common.{◌≡◌, ℕ, zero, suc, ◌+◌, ◌≤◌, ◌++◌, true, List, [], ◌∷◌, length}
+use Rattle.std.proofs.Common.{map, refl, sym, ap, subst, ◌∙◌}
 use Rattle.std.specs.Prelude.{codes, decimal}
 use Rattle.std.specs.List.{All, count_by, flat_map, list_any, range_with_len, sum_by}
 use Rattle.std.proofs.lemmas.List.{map-id}
@@ -20,12 +20,11 @@ use Rattle.ea_model.specs.Trace.{MayStop, gives, gives_to, greatest_of, listed, 
 use Rattle.ea_model.specs.Trace.{plain_mode, stop_in, takes, text_at, texts_of, tries_of}
 use Rattle.ea_model.proofs.Traces.{plain-texts}
 use Rattle.ea_machine.specs.Completion.{turns_in}
-use Rattle.ea_machine.specs.Outcome.{outcome}
-use Rattle.ea_machine.specs.Setup.{Setup, setup_of, text_for}
+use Rattle.ea_machine.specs.Setup.{setup_of, text_for}
 use Rattle.ea_report.specs.Text.{line, outcome_text}
 use Rattle.ea_trace.specs.Language.{no_stops}
 use Rattle.ea_contents.specs.Command.{IsContentsText}
-use Rattle.ea_contents.specs.Language.{is_schedule}
+use Rattle.ea_given.specs.Layouts.{is_scheduled}
 use Rattle.ea_contents.specs.Model.{Script, complete, play}
 use Rattle.ea_contents.specs.Playing.{outcome_played, shown_played}
 use Rattle.ea_contents.specs.Text.{line_text, lists_text, ran_text, text_after}
@@ -103,7 +102,7 @@ lists-by shown first (suc count) =
     ++ later) (lists-by shown (first + 1) count)
 
 -- whether it is run is the same of the trace as a definition answers it
-pub same-schedule : (m : Mode) → is_schedule (plain_mode m) ≡ is_schedule m
+pub same-schedule : (m : Mode) → is_scheduled (plain_mode m) ≡ is_scheduled m
 same-schedule Threads = refl
 same-schedule (Schedule turns) = refl
 same-schedule (Generated seed count) = refl

@@ -5,8 +5,6 @@ use Rattle.std.specs.Prelude.{if◌then◌else◌, List, [], ◌∷◌, ◌++◌
 use Rattle.std.specs.Prelude.{Option, Some, None, Result, Ok, Err}
 use Rattle.std.specs.Prelude.{bytes_eq, codes, is_some, length, map, option_and_then}
 use Rattle.ea_model.specs.declared.settings.Config.{Config}
-use Rattle.ea_model.specs.declared.trace.Mode.{Mode}
-use Rattle.ea_model.specs.declared.trace.Mode.TheVariants as mode
 use Rattle.ea_model.specs.declared.trace.Trace.{Trace}
 use Rattle.ea_model.specs.Words.{number}
 use Rattle.ea_trace.specs.Between.{in_section}
@@ -15,6 +13,7 @@ use Rattle.ea_trace.specs.Language.{no_stops, section_operations, sections, trac
 use Rattle.ea_trace.specs.Lines.{both_words, line_of_words, name_in, pair, three_words, triple}
 use Rattle.ea_trace.specs.declared.fault.TraceFault.{TraceFault}
 use Rattle.ea_trace.specs.declared.fault.TraceFault.TheVariants as fault
+use Rattle.ea_given.specs.Layouts.{is_scheduled}
 use Rattle.ea_contents.specs.declared.access.Access.{Access}
 use Rattle.ea_contents.specs.declared.access.Access.TheVariants.{Read, Write}
 use Rattle.ea_contents.specs.Model.{Script}
@@ -108,10 +107,5 @@ abbrev pub request : Config → List ℕ → Result Request TraceFault
 request c input = request_of c.schedulers (lines_of input)
 
 -- it is run where it has a schedule and no stop
-abbrev pub is_schedule : Mode → Bool
-is_schedule mode.Threads = false
-is_schedule (mode.Schedule turns) = true
-is_schedule (mode.Generated seed count) = false
-
 abbrev pub is_run : Request → Bool
-is_run r = is_schedule r.trace.mode && no_stops r.trace.stops.items
+is_run r = is_scheduled r.trace.mode && no_stops r.trace.stops.items

@@ -24,8 +24,6 @@ mod part;
 mod playing;
 mod reader;
 mod session;
-#[cfg(test)]
-mod tests;
 mod text;
 
 pub use access::{Access, AccessEntry, Making};

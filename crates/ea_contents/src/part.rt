@@ -6,7 +6,7 @@ ghost use Rattle.ea_model.specs.Settings.{IsValidConfig};
 ghost use Rattle.ea_model.specs.declared.units.TheConstants.{MAX_INPUT};
 ghost use Rattle.ea_trace.specs.Language.{no_stops};
 ghost use Rattle.ea_contents.specs.Command.{contents_traces};
-ghost use Rattle.ea_contents.specs.Language.{is_schedule};
+ghost use Rattle.ea_given.specs.Layouts.{is_scheduled};
 
 use crate::playing::run_script;
 use crate::reader::read_contents;
@@ -17,7 +17,7 @@ use std::alloc::Global;
 
 /// Whether a trace has a schedule of its own, and no scheduler stops.
 fn is_run(trace: &Trace) -> bool
-    ensures { result ≡ (is_schedule trace.now.mode && no_stops trace.now.stops.items) }
+    ensures { result ≡ (is_scheduled trace.now.mode && no_stops trace.now.stops.items) }
 {
     match trace.mode {
         Mode::Schedule { .. } => trace.stops.as_slice().is_empty(),

@@ -1,8 +1,10 @@
-//! Worked inputs of what blocks contain, computed from the definitions alone, and runs of the
-//! command.
+//! Worked inputs of what blocks contain, computed from the definitions alone; a memory with blocks,
+//! and runs of the command.
 #![tactic(auto)]
 
 mod inputs;
+#[cfg(test)]
+mod memory;
 #[cfg(test)]
 mod tests;
 mod worked;

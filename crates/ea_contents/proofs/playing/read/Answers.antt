@@ -1,4 +1,4 @@
-use Rattle.std.proofs.Common.{◌+◌, ◌<◌, ◌≤◌, arith}
+use Rattle.std.proofs.Common.{arith}
 use Rattle.ea_contents.proofs.Entering.{found, has-word, read-outside, read-skipped}
 use Rattle.ea_contents.proofs.playing.read.Goals as goal
 

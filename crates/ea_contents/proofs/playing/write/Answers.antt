@@ -1,4 +1,4 @@
-use Rattle.std.proofs.Common.{◌+◌, ◌<◌, ◌≤◌, arith}
+use Rattle.std.proofs.Common.{arith}
 use Rattle.ea_contents.proofs.Entering.{has-word, has-written, none-outside, none-written}
 use Rattle.ea_contents.proofs.Entering.{write-outside, write-skipped, wrote}
 use Rattle.ea_contents.proofs.playing.write.Goals as goal

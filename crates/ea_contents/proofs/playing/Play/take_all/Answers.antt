@@ -1,5 +1,5 @@
 use Rattle.std.proofs.Common.{take}
-use Rattle.ea_contents.proofs.Played.{goes-has, goes-is, schedule-all, schedule-more, taken-none}
+use Rattle.ea_contents.proofs.Played.{goes-has, goes-is, schedule-all, schedule-more}
 use Rattle.ea_contents.proofs.Played.{turns_from}
 use Rattle.ea_contents.proofs.playing.Play.take_all.Goals as goal
 

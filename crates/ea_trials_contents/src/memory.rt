@@ -1,5 +1,5 @@
 //! A memory with blocks.
-use crate::Memory;
+use ea_contents::Memory;
 use ea_outcome::Extent;
 use std::test::Fail;
 
