@@ -1,5 +1,5 @@
 use ea_io::{LengthSink, MemSink, PlainSource};
-use ea_model::List;
+use ea_model::{List, OutOfMemory};
 use ea_trials::{NotRun, run_words};
 use std::alloc::Global;
 use std::test::Fail;
@@ -42,6 +42,16 @@ fn an_input_has_16_megabytes_at_most(rt: HostRuntime) -> Result<(), Fail> {
     Ok(())
 }
 
+// A trace of a block, that many frees of it, and the line, which may be empty.
+fn trace_of(alloc: Global, frees: usize, line: &str) -> Result<Vec<u8>, OutOfMemory> {
+    let mut input = Vec::from_slice(alloc, b"type H\nscheduler 1\nalloc 1 0\n")?;
+    let all = b"free 1\n".repeat(alloc, frees)?;
+    input.extend_from_slice(&all)?;
+    input.extend_from_slice(line.as_bytes())?;
+    input.extend_from_slice(b"schedule\nend\n")?;
+    Ok(input)
+}
+
 #[test]
 fn a_trace_has_1048576_operations_at_most(rt: HostRuntime) -> Result<(), Fail> {
     // 12 bytes of the section's line, 14 of the block, 12 of its free, 15 of each other, 57 of the
@@ -51,14 +61,45 @@ fn a_trace_has_1048576_operations_at_most(rt: HostRuntime) -> Result<(), Fail> {
         (1_048_576, 2, 0, "erts_alloc_run: line 1048579: too many\n"),
     ];
     for (frees, wanted, text, line) in cases {
-        let mut input = Vec::from_slice(rt.alloc(), b"type H\nscheduler 1\nalloc 1 0\n")?;
-        let all = b"free 1\n".repeat(rt.alloc(), frees)?;
-        input.extend_from_slice(&all)?;
-        input.extend_from_slice(b"schedule\nend\n")?;
+        let input = trace_of(rt.alloc(), frees, "")?;
         let (status, length, err) = measure(&rt, rt.alloc(), input)?;
         assert_eq!(rt; status, wanted, "after {frees} frees");
         assert_eq!(rt; length, text, "after {frees} frees");
         assert_eq!(rt; err.taken(), line.as_bytes(), "after {frees} frees");
+    }
+    Ok(())
+}
+
+#[test]
+fn too_many_operations_are_told_before_a_name(rt: HostRuntime) -> Result<(), Fail> {
+    // The first two lines would be refused for their name too, as the others are.
+    let cases = [
+        (
+            1_048_575,
+            "alloc 1 0\n",
+            "erts_alloc_run: line 1048579: too many\n",
+        ),
+        (
+            1_048_575,
+            "free 2\n",
+            "erts_alloc_run: line 1048579: too many\n",
+        ),
+        (
+            1_048_574,
+            "alloc 1 0\n",
+            "erts_alloc_run: line 1048578: name reused\n",
+        ),
+        (
+            1_048_574,
+            "free 2\n",
+            "erts_alloc_run: line 1048578: name not held\n",
+        ),
+    ];
+    for (frees, last, line) in cases {
+        let input = trace_of(rt.alloc(), frees, last)?;
+        let (status, length, err) = measure(&rt, rt.alloc(), input)?;
+        assert_eq!(rt; (status, length), (2, 0), "{last} after {frees} frees");
+        assert_eq!(rt; err.taken(), line.as_bytes(), "{last} after {frees} frees");
     }
     Ok(())
 }
