@@ -39,14 +39,6 @@ pub moved : (n : ℕ) (before : WordLines) (words : LineWords) (later : WordLine
     → trace_of n ((before ++ words ∷ []) ++ later) ≡ trace_of n (before ++ words ∷ later)
 moved n before words later = ap (trace_of n) (append_assoc before (words ∷ []) later)
 
--- a refused line decides also after one more
-pub decides_more : (n : ℕ) (before : WordLines) (words : LineWords) (r s : TraceReader)
-    (o : Option TraceFault) (f : TraceFault) → o ≡ Some f → Decides n before r o
-    → Decides n (before ++ words ∷ []) s o
-decides_more n before words r s None f e h = absurd cc
-decides_more n before words r s (Some g) f e h = λ later. moved n before words later
-    ∙ h (words ∷ later)
-
 pub none_of : (o : Option TraceFault) → is_some o ≡ false → o ≡ None
 none_of None e = refl
 none_of (Some f) e = absurd cc
