@@ -1,7 +1,7 @@
 use Rattle.std.proofs.Common.{rules, ap, ◌∙◌, append_assoc}
 use Rattle.ea_report.specs.Printed.{headed_texts}
 use Rattle.ea_report.proofs.Headed.{headed_logs}
-use Rattle.ea_report.proofs.beside.print_beside.Goals as goal
+use Rattle.ea_report.proofs.beside.put_beside.Goals as goal
 
 pub returns : goal.returns
 returns g c =
