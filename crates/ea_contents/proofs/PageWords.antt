@@ -127,11 +127,6 @@ module _ (size : ℕ) where
       let later = there-full i ps (All-tail (IsPage size) p ps are) has in
       (omega (arith, later.0), later.1)
 
-  pub none-are : (n : ℕ) → All (IsPage size) (replicate n [])
-  none-are zero = All-nil (IsPage size)
-  none-are (suc n) = All-cons (IsPage size) [] (replicate n []) (λ some. absurd (some refl))
-      (none-are n)
-
 set-there : (j v : ℕ) (p : Page) → is_there (set p j v) ≡ is_there p
 set-there j v [] = refl
 set-there zero v (w ∷ ws) = refl

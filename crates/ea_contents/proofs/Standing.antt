@@ -151,9 +151,6 @@ module _ (c : Config) (t : Trace) (turns : List ℕ) (lists : ℕ → List ℕ) 
   pub rules : (L : List ℕ) → Rule setup (run setup L)
   rules = rule-run c t at.run.shared.config at.run.shared.trace
 
-  pub is-run : IsRun s.run
-  is-run = (c, t, turns, at.run)
-
   -- a block lies within the memory
   pub lies-stored : (name : ℕ) (x : Extent) → LiesOver setup name (range_of x) w
       → IsStored x s.memory.words

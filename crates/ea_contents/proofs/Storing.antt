@@ -11,10 +11,6 @@ use Rattle.ea_contents.specs.Memory.{fitted, with_words}
 pasted : (m ws : List ℕ) (at n : ℕ) → n ≡ length ws → paste m at ws n ≡ with_words at ws m
 pasted m ws at n e = paste_all m at ws n e ∙ ap (λ k. take at m ++ (ws ++ drop (at + k) m)) e
 
--- no words are written
-pub with-none : (m : List ℕ) (at : ℕ) → with_words at [] m ≡ m
-with-none m at = sym (pasted m [] at 0 refl) ∙ sym (paste_none m at [])
-
 -- one word more is 0
 pub cleared-more : (m : List ℕ) (at k : ℕ) → at + k < length m
     → set (with_words at (replicate k 0) m) (at + k) 0 ≡ with_words at (replicate (k + 1) 0) m

@@ -182,13 +182,6 @@ choice_more s need best c cs shared =
     ∙ ap (better_of (takes_first s) best)
     (ap (λ xs. first (takes_first s) (large_enough need xs)) shared ∙ first_inside s need c))
 
--- what holds of both holds of the better one
-pub better_of-either : {A : Type 0} (P : A → Type 0) (t : A → A → Bool) (a b : Option A)
-    → IfSome a P → IfSome b P → IfSome (better_of t a b) P
-better_of-either P t a None p q = p
-better_of-either P t None (Some y) p q = q
-better_of-either P t (Some x) (Some y) p q = cond_both (t y x) y x P (λ _. q) (λ _. p)
-
 -- the same of the gaps of carriers without blocks
 module _ (need : ℕ) (best : Option Candidate) (c : Content) (cs : List Content) where
   abbrev of_empty : List Content → Option Candidate → Option Candidate
@@ -201,18 +194,6 @@ module _ (need : ℕ) (best : Option Candidate) (c : Content) (cs : List Content
       ap (λ ds. fold (better lower) best (large_enough need (candidates ds)))
       (cond-true (is_empty_multi c) (c ∷ filter is_empty_multi cs) (filter is_empty_multi cs)
       done) ∙ choice_more Aoff need best c (filter is_empty_multi cs) shared
-
--- the better of two choices has the better candidate
-pub better_of-candidates : (t : Candidate → Candidate → Bool) (best found : Option Choice)
-    → candidate_of (better_of (λ a b. t a.candidate b.candidate) best found)
-    ≡ better_of t (candidate_of best) (candidate_of found)
-better_of-candidates t best None = refl
-better_of-candidates t None (Some x) = refl
-better_of-candidates t (Some y) (Some x) =
-    elim (cases_Bool (t x.candidate y.candidate)) [
-      | inl p ↦ rw p refl
-      | inr q ↦ rw q refl
-    ]
 
 -- what is chosen in the carrier at an index is a choice among all
 pub chosen_here : (need : ℕ) (cs : List Content) (i : ℕ) (item : Content) → i < length cs

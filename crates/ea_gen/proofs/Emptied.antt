@@ -90,13 +90,6 @@ module _ (p : Option ℕ → Bool) where
   later none (x ∷ ps) (suc i) = kept (p x) (p x) (position_or_len p ps)
       (position_or_len p (set ps i None)) (λ t. t) (later none ps i)
 
-  -- where one is added, too
-  pub later_push : (ps : List (Option ℕ)) (x : Option ℕ)
-      → position_or_len p ps ≤ position_or_len p (ps ++ x ∷ [])
-  later_push [] x = omega arith
-  later_push (y ∷ ps) x = kept (p y) (p y) (position_or_len p ps)
-      (position_or_len p (ps ++ x ∷ [])) (λ t. t) (later_push ps x)
-
   module _ (q : ℕ → Bool) (same : (k : ℕ) → p (Some k) ≡ q k) where
     before : (ps : List (Option ℕ)) (i : ℕ) → i ≤ position_or_len p ps → Without q (take i ps)
     before ps zero h = tt

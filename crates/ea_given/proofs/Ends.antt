@@ -247,9 +247,6 @@ module _ (e : Setup) (steps : ℕ → Option ℕ) where
 
 -- what is left to the schedulers then
 module _ (steps : ℕ → Option ℕ) where
-  abbrev over-from : (ℕ → Option ℕ) → ℕ → ℕ → Option ℕ
-  over-from now k = put now (k + 1) (Some 0)
-
   -- number 0 is no scheduler's
   pub after-none : IsAfter steps 0 (put steps 0 (Some 0))
   after-none = record {

@@ -76,21 +76,11 @@ either : (a b : Bool) → (a || b) ≡ true → (a ≡ true) ⊎ (b ≡ true)
 either true b is = inl refl
 either false b is = inr is
 
-other-so : (a b : Bool) → (not a && b) ≡ true → (a ≡ false) × (b ≡ true)
-other-so true b is = absurd cc
-other-so false b is = (refl, is)
-
 pub goes-is : (s : Scheduler) → rests s ≡ false
     → (is_ended s.stage ≡ false) × (s.left ≢ Some 0)
 goes-is s is =
     let both = both-no (is_ended s.stage) (is_over s.left) is in
     (both.0, some-left s.left both.1)
-
-stopped-is : (s : Scheduler) → is_stopped s ≡ true
-    → (is_ended s.stage ≡ false) × (s.left ≡ Some 0)
-stopped-is s is =
-    let both = other-so (is_ended s.stage) (is_over s.left) is in
-    (both.0, over-is s.left both.1)
 
 rests-is : (s : Scheduler) → rests s ≡ true → (is_ended s.stage ≡ true) ⊎ (s.left ≡ Some 0)
 rests-is s is = elim (either (is_ended s.stage) (is_over s.left) is) [
@@ -147,12 +137,6 @@ ended-stays : (e : Setup) (me : ℕ) (w : State) (n : ℕ) → (w.actors me).sta
 ended-stays e me w zero ended = refl
 ended-stays e me w (suc n) ended = ap (λ v. run_on e v (replicate n me)) (step-ended e w me ended)
     ∙ ended-stays e me w n ended
-
--- more turns of it
-run-more : (e : Setup) (me : ℕ) (w : State) (n k : ℕ) → run_on e w (replicate (n + k) me)
-    ≡ run_on e (run_on e w (replicate n me)) (replicate k me)
-run-more e me w n k = ap (run_on e w) (sym (replicate-append-replicate n k me))
-    ∙ run-append e w (replicate n me) (replicate k me)
 
 -- a scheduler that stands in a state of a run
 module _ (c : Config) (t : Trace) (me : ℕ) (steps : Option ℕ) (s : Scheduler) (w : State)

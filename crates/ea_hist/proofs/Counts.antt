@@ -32,11 +32,6 @@ one-here j u e = grind (arith, e)
 one-other : (j u : ℕ) → interval_of u ≢ j → count_in j (u ∷ []) ≡ 0
 one-other j u n = grind (arith, n)
 
-pub counts-length : (xs : List ℕ) → length (counts xs) ≡ 18
-unfolding counts
-counts-length xs = length-map (range_with_len 1 18) (λ j. count_in j xs)
-    ∙ length-range_with_len 1 18
-
 pub counts-at : (xs : List ℕ) (k d : ℕ) → k < 18 → get_or (counts xs) k d ≡ count_in (k + 1) xs
 unfolding counts
 counts-at xs k d less = get_or-map-range_with_len (λ j. count_in j xs) 1 18 k (k + 1) d less

@@ -332,9 +332,6 @@ module _ (i : Instance) (x : Content) (st : Stands i)
         × All (λ c. c.number ≢ x.number) i.singles
     each_other = merged-each number_of (λ c. c.number ≢ x.number) i.contents i.singles others_number
 
-    once_more : IsRising (with_content x (employed i))
-    once_more = rising-entered number_of x (employed i) st.orderly.once others_number
-
     apart_more : AllPairs ContentsApart (with_content x (employed i))
     apart_more = entered-with number_of ContentsApart turned-apart x (employed i) st.apart away
 

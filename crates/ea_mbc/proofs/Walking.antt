@@ -97,22 +97,6 @@ choose-end words names end at need inner best chosen w le =
 abbrev pub Greatest : ℕ → ℕ → ℕ → ℕ → List BlockAt → Type 0
 Greatest most end whole at rest = max most (largest (gaps at end rest)) ≡ whole
 
-pub greatest-step : (words names : List ℕ) (end at most next whole : ℕ) (h : Header)
-    → (w : Walk words names end at (Greatest most end whole)) → at < end
-    → code h ≡ slice_index words at → next ≡ max most (free_of h)
-    → Walk words names end (at + h.size) (Greatest next end whole)
-greatest-step words names end at most next whole h w lt e is =
-    walk-on words names end at _ (Greatest next end whole) h w lt e
-    (λ s.
-    let first = largest-gap at (at + free_of h) in
-    let both = largest-append (gap at (at + free_of h)) (gaps (at + h.size) end s.rest) in
-    omega (arith, is, first, both, ap largest s.gaps, w.holds))
-
-pub greatest-end : (words names : List ℕ) (end at most whole : ℕ)
-    → Walk words names end at (Greatest most end whole) → end ≤ at → most ≡ whole
-greatest-end words names end at most whole w le =
-    omega (arith, walk-end words names end at _ w le, largest-gap at end)
-
 -- the rest has the block at the offset, if there is one
 abbrev pub Finding : ℕ → Option BlockAt → ℕ → List BlockAt → Type 0
 Finding offset found at rest = block_at rest offset ≡ found

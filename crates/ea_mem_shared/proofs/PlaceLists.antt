@@ -29,27 +29,7 @@ all-absent n k = elim (cases_lt k n) [
   beyond (p ∷ ps) zero past = absurd (omega (arith, past))
   beyond (p ∷ ps) (suc k) past = beyond ps k (omega (arith, past))
 
--- one absent place more
-pub one-absent : (n : ℕ) → replicate n Absent ++ Absent ∷ [] ≡ replicate (n + 1) Absent
-one-absent n = replicate-append-replicate n 1 Absent
-
 module _ {C : Type 0} (content : C → Content) where
-  pub more-absent : (n : ℕ) (ps qs : List (Place C)) → map (placed content) ps ≡ replicate n Absent
-      → qs ≡ ps ++ code.Absent ∷ [] → map (placed content) qs ≡ replicate (n + 1) Absent
-  more-absent n ps qs are is = ap (map (placed content)) is
-      ∙ map-append (placed content) ps (code.Absent ∷ [])
-      ∙ ap (λ xs. xs ++ Absent ∷ []) are ∙ one-absent n
-
-  -- a place of the list
-  pub place-of : (ps : List (Place C)) (k : ℕ) (d : Place C) → k < length ps
-      → place_at (map (placed content) ps) k ≡ placed content (get_or ps k d)
-  place-of ps k d within = by ps k within where
-    by : (ps : List (Place C)) (k : ℕ) → k < length ps
-        → place_at (map (placed content) ps) k ≡ placed content (get_or ps k d)
-    by [] k within = absurd (omega (arith, within))
-    by (p ∷ ps) zero within = refl
-    by (p ∷ ps) (suc k) within = by ps k (omega (arith, within))
-
   pub places-set : (ps qs : List (Place C)) (k : ℕ) (p : Place C) → qs ≡ set ps k p
       → map (placed content) qs ≡ set (map (placed content) ps) k (placed content p)
   places-set ps qs k p is = ap (map (placed content)) is ∙ map-set (placed content) ps k p

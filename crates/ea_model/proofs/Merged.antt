@@ -184,13 +184,6 @@ module _ {A : Type 0} (key_of : A → ℕ) where
   entered_front x (y ∷ ys) below =
       entered_here key_of x y ys (All-head (IsBelow key_of x) y ys below)
 
-  -- the first of all is the first of the one list or of the other
-  pub merged-first_left : (x : A) (xs ys : List A) → All (IsBelow key_of x) xs
-      → All (IsBelow key_of x) ys
-      → merged key_of (x ∷ xs) ys ≡ x ∷ merged key_of xs ys
-  merged-first_left x xs ys above beside =
-      entered_front x (merged key_of xs ys) (merged-All (IsBelow key_of x) xs ys above beside)
-
   without_entered : (key : ℕ) (x : A) (ys : List A) → key_of x ≡ key
       → without key_of key (entered key_of x ys) ≡ without key_of key ys
   without_entered key x [] e = without_here key_of key x [] e

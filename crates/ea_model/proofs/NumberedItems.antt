@@ -60,28 +60,6 @@ map-flat_map f g [] = refl
 map-flat_map f g (x ∷ xs) = map-append f (g x) (flat_map g xs)
     ∙ ap (λ ys. map f (g x) ++ ys) (map-flat_map f g xs)
 
--- numbers from 1 on, in n parts of m each
-pub in-parts : {A : Type 0} (g : ℕ → List A) (low : ℕ → ℕ) (m n : ℕ)
-    → ((i : ℕ) → low (suc i) ≡ 1 + i * m)
-    → flat_map g (range_with_len 1 (n * m))
-    ≡ flat_map (λ i. flat_map g (range_with_len (low i) m)) (range_with_len 1 n)
-in-parts g low m zero begins = ap (λ k. flat_map g (range_with_len 1 k)) (none m) where
-  none : (m : ℕ) → 0 * m ≡ 0
-  none m = omega arith
-in-parts g low m (suc n) begins =
-    let part = λ (i : ℕ). flat_map g (range_with_len (low i) m) in
-    ap (λ k. flat_map g (range_with_len 1 k)) (one_more n m)
-    ∙ ap (flat_map g) (range-parts 1 (n * m) m)
-    ∙ flat_map-append g (range_with_len 1 (n * m)) (range_with_len (1 + n * m) m)
-    ∙ ap (λ xs. xs ++ flat_map g (range_with_len (1 + n * m) m)) (in-parts g low m n begins)
-    ∙ ap (λ b. flat_map part (range_with_len 1 n) ++ flat_map g (range_with_len b m))
-    (sym (begins n))
-    ∙ ap (λ xs. flat_map part (range_with_len 1 n) ++ xs) (sym (append-nil (part (suc n))))
-    ∙ sym (flat_map-append part (range_with_len 1 n) (suc n ∷ []))
-    ∙ ap (flat_map part) (sym (range-last n)) where
-      one_more : (n m : ℕ) → suc n * m ≡ n * m + m
-      one_more n m = grind arith
-
 -- the item as a list of at most one
 abbrev pub if_there : {A B : Type 0} → (A → B) → Option A → List B
 if_there f None = []

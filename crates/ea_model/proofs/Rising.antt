@@ -186,13 +186,6 @@ module _ {A : Type 0} (key_of : A → ℕ) where
             (omega arith)) ∙ sym (without_past key x xs n)
       ]
 
-  -- the item at the place of the key
-  pub item_at-place : (key : ℕ) (xs : List A) (d : A)
-      → position_or_len (has_key key_of key) xs < length xs
-      → item_at key_of xs key ≡ Some (get_or xs (position_or_len (has_key key_of key) xs) d)
-  item_at-place key xs d within = find_at (has_key key_of key) xs
-      ∙ slice_get-get_or xs (position_or_len (has_key key_of key) xs) d within
-
   -- each item is found by its key
   pub item_at-each : (i : ℕ) (d : A) (xs : List A) → AllPairs (IsBelow key_of) xs → i < length xs
       → item_at key_of xs (key_of (get_or xs i d)) ≡ Some (get_or xs i d)

@@ -29,11 +29,6 @@ runs_of r = runs r.first r.end r.taken
 abbrev pub lowest_run : ℕ → List Segment → Option ℕ
 lowest_run pages rs = option_map (λ r. r.base) (find (λ r. nat_le pages r.pages) rs)
 
--- the pages of the longest run, or 0
-abbrev pub longest : List Segment → ℕ
-longest [] = 0
-longest (r ∷ rs) = max r.pages (longest rs)
-
 -- s among the segments, by its base
 abbrev pub with_segment : Segment → List Segment → List Segment
 with_segment s ss = entered (λ t. t.base) s ss

@@ -232,16 +232,6 @@ few-lines n asked number left r reads = omega (
 
 -- the answer of the trace is that of the input
 
-pub gives-err : (f : TraceFault) (asked : Asked) → asked ≡ Err f → GivesInput (Err f) asked
-gives-err (fault.Syntax number) asked e = e
-gives-err (fault.BadScheduler number) asked e = e
-gives-err (fault.NameReused number) asked e = e
-gives-err (fault.NotHeld number) asked e = e
-gives-err (fault.NotAddressed number) asked e = e
-gives-err (fault.TooMany number) asked e = e
-gives-err fault.NoEnd asked e = e
-gives-err fault.OutOfMemory asked e = tt
-
 pub trace-err : (f : TraceFault) (order : List ℕ) (read : Answer) → Gives (Err f) read
     → GivesInput (Err f) (asked_by order read)
 trace-err (fault.Syntax number) order read e = ap (asked_by order) e

@@ -177,18 +177,6 @@ module _ (c : Config) (t : Trace) (me : ℕ) (a : Actor) where
 pub stage-goes : (stage : Stage Content) → is_ended stage ≡ false → stage ≢ Ended
 stage-goes stage goes ended = let no : true ≡ false = ap is_ended (sym ended) ∙ goes in cc
 
-pub stage-ends : (stage : Stage Content) → is_ended stage ≡ true → stage ≡ Ended
-stage-ends (stages.Routed route why gone) ends = absurd cc
-stage-ends stages.Begin ends = absurd cc
-stage-ends (stages.Collecting number) ends = absurd cc
-stage-ends (stages.Searching ask at part) ends = absurd cc
-stage-ends (stages.Fetching ask at part seen) ends = absurd cc
-stage-ends (stages.Creating ask p) ends = absurd cc
-stage-ends (stages.Giving given to) ends = absurd cc
-stage-ends (stages.Taking name tries left) ends = absurd cc
-stage-ends stages.Ended ends = refl
-stage-ends stages.Ready ends = absurd cc
-
 -- whether a carrier is to be created
 abbrev pub is_creating : Stage Content → Bool
 is_creating (stages.Routed route why gone) = false

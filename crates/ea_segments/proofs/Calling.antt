@@ -46,9 +46,6 @@ module _ (m n : Me Account View) (bare : m.1 ≡ []) (won : Won m n) (x y : Acco
   history : y.history ≡ x.history ++ c ∷ []
   history = ap (λ (z : Account). z.history) added
 
-  room-left : length x.history + (acting m.0).left ≤ (acting m.0).most
-  room-left = omega (arith, won.room, ap (λ (z : Account). length z.history) same)
-
   pub may-give-back : (a : About) (id slots : ℕ) (st : Step Account)
       → Allows (holds a) slots id me 0 (λ _. 0) (λ _. ends st me 0)
   may-give-back a id slots st =
@@ -75,12 +72,6 @@ module _ (m n : Me Account View) (bare : m.1 ≡ []) (won : Won m n) (x y : Acco
         ∙ ap (λ (l : List Call). (acting m.0).mine ++ l)
         (ap (λ (l : List Call). drop (length l) y.history) seen
         ∙ ap (drop (length x.history)) history ∙ drop-front x.history (c ∷ []))
-
-    pub bare-after : k.1 ≡ []
-    bare-after = ap (λ (z : Me Account View). z.1) gave
-
-    pub idle-after : k.0.holds ≡ false
-    idle-after = ap (λ (u : View). u.holds) is
 
     pub single-after : IsSingle k.0
     single-after = subst IsSingle (sym is) refl

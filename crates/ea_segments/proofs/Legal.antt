@@ -239,15 +239,6 @@ held-push hs cs c turn e n =
     left-held c.reply c (standing hs turn) (stands cs) e (n ∙ sym (calls-count cs))
     ∙ ap (λ (s : Standing). s.held) (sym (stands-push cs c))
 
-pub take-reply : (total : ℕ) (s : Standing) (c : Call) → 1 ≤ c.pages
-    → reply_at total s c ≡ reply_to_take total c.pages s.held
-take-reply total s c some =
-    elim (kind-cases c.pages (reply_to_back (oldest c.scheduler c.name s.held))
-    (reply_to_take total c.pages s.held)) [
-      | inl b ↦ absurd (omega (arith, some, b.0))
-      | inr t ↦ t.1
-    ]
-
 pub held-laid : (total : ℕ) (cs : List Call) (hs : List Held) → IsLegal total cs
     → hs ≡ (stands cs).held → Laid 0 total (segments hs)
 held-laid total cs hs legal e =

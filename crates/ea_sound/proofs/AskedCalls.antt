@@ -50,20 +50,6 @@ use Rattle.ea_sound.proofs.RowLeaves as rows
 use Rattle.ea_sound.proofs.SoundRanges.{number-scheduler}
 use Rattle.ea_sound.proofs.TraceNames.{IsNameOf}
 
--- a planned carrier has a page at least, and no more than there can be
-pub plan-pages : (i : Instance) (need : ℕ) (p : CarrierPlan)
-    → IsKept i.settings i.number i.first i.end i.own → plan i need ≡ Ok p
-    → (1 ≤ p.pages) × (p.pages ≤ MAX_PAGES)
-plan-pages i need p kept asked =
-    let own = with_own (planned_own p) i.own in
-    let made = IsKept-made i need p kept asked in
-    let there = item_at-new own_number (planned_own p) i.own
-    (unused-All p.number i.own (planned-number i need p asked).2) in
-    let lies = own-between i.first i.end p.number (planned_own p) own made.laid there in (
-      item_at-All own_number HasPages p.number (planned_own p) own made.pages there,
-      omega (arith, lies.1, kept.within),
-    )
-
 module _ (c : Config) (t : Trace) (valid : IsValidConfig c)
     (made : IsValidTrace c.schedulers t) (w : State) (reached : IsReached (setup_of c t) w)
     (me : ℕ) (number : IsScheduler c.schedulers me) where
@@ -91,16 +77,6 @@ module _ (c : Config) (t : Trace) (valid : IsValidConfig c)
   first-by ask [] first of = absurd of
   first-by ask (o ∷ ops) first of = (o, ops, first)
 
-  -- its name is one of the trace
-  name-by : (ask : Ask) (todo : List Op) → a.todo ≡ todo → OfAsk ask todo → IsNameOf t ask.name
-  name-by ask (op.Alloc name bytes ∷ ops) first of =
-      let is = first-operation c t valid made w reached me (op.Alloc name bytes) ops first in
-      subst (IsNameOf t) (sym of.0) (is.0.0.0, is.1)
-  name-by ask (op.Realloc old name bytes ∷ ops) first of =
-      let is = first-operation c t valid made w reached me (op.Realloc old name bytes) ops first in
-      subst (IsNameOf t) (sym of.0) (is.0.1.0, omega (arith, is.1))
-  name-by ask todo first of = absurd of
-
   -- so is the old one
   old-by : (ask : Ask) (todo : List Op) → a.todo ≡ todo → OfAsk ask todo → (h : Named)
       → ask.old ≡ Some h → IsNameOf t h.name
@@ -125,9 +101,6 @@ module _ (c : Config) (t : Trace) (valid : IsValidConfig c)
 
     pub asked-first : (o : Op) × (ops : List Op) × (a.todo ≡ o ∷ ops)
     asked-first = first-by ask a.todo refl asked.of
-
-    pub asked-name : IsNameOf t ask.name
-    asked-name = name-by ask a.todo refl asked.of
 
     pub asked-unheld : named_at ask.name a.held ≡ None
     asked-unheld = not_held e w me (scheduler-seat e me is) k a refl ask.name asked.fresh
@@ -154,9 +127,6 @@ module _ (c : Config) (t : Trace) (valid : IsValidConfig c)
     pub search-goes : goes_on part ≡ true
     search-goes = searches.2
 
-    pub search-none : chosen_spot a.instance ask.need ≡ None
-    search-none = searches.3
-
   -- before a try to fetch
   module _ (ask : Ask) (n : ℕ) (part : Part) (seen : OwnerWord)
       (now : a.stage ≡ Fetching ask n part seen) where
@@ -168,9 +138,6 @@ module _ (c : Config) (t : Trace) (valid : IsValidConfig c)
 
     pub fetch-left : HasLeft e part
     fetch-left = fetches.1
-
-    pub fetch-none : chosen_spot a.instance ask.need ≡ None
-    fetch-none = fetches.2
 
     -- there is a choice with what it brings
     pub fetched-chosen : (x : Content) → tried_at seen (w.shared.places n) ≡ Won x
@@ -189,11 +156,3 @@ module _ (c : Config) (t : Trace) (valid : IsValidConfig c)
 
     pub create-plan : plan a.instance ask.need ≡ Ok p
     create-plan = creates.1
-
-    -- where many blocks are to come to it, nothing is chosen before it
-    pub create-none : (p.single ≡ true) ⊎ (chosen_spot a.instance ask.need ≡ None)
-    create-none = creates.3
-
-    pub create-pages : (1 ≤ p.pages) × (p.pages ≤ MAX_PAGES)
-    create-pages = plan-pages a.instance ask.need p (k.ranges.instances me is).order.kept
-        creates.1

@@ -112,17 +112,6 @@ there-is (Busy i) there = refl
 there-is (Returning i x) there = refl
 
 -- a block in the hand, in a carrier that its scheduler employs by the words, is a block of it
-module _ (e : Setup) (w : State) (s : Shared) (me : ℕ) (is : is_scheduler e me ≡ true) (a : Actor)
-    (h : Named) (why : Why) (gone : Gone)
-    (k : Kept e (with_actor w s me (at (Routed (Looking h) why gone) a)))
-    (here : Here e s me h.spot.carrier) where
-  pub hand-block : HasBlock a.instance h.name h.spot
-  hand-block =
-      let now = at (Routed (Looking h) why gone) a in
-      hit e (with_actor w s me now) me (scheduler-seat e me is) k now
-      (put-here w.actors me now me refl)
-      h.name h.spot here (omega (arith, only_at-itself h.name h.spot)) refl
-
 module _ (c : Config) (t : Trace) (valid : IsValidConfig c)
     (made : IsValidTrace c.schedulers t) (w : State) (reached : IsReached (setup_of c t) w) where
   abbrev e : Setup

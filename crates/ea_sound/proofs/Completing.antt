@@ -278,19 +278,6 @@ module _ (e : Setup) where
   ending-zero w s (Taking n tries left) = refl
   ending-zero w s Ready = refl
 
-  -- nobody else steps meanwhile
-  pub ending-others : (most : ℕ) (w : State) (s j : ℕ) (st : Stage Content) → j ≢ s
-      → (run_on e w (ending e most w s st)).actors j ≡ w.actors j
-  ending-others zero w s j st ne = ap (λ js. (run_on e w js).actors j) (ending-zero w s st)
-  ending-others (suc most) w s j st ne =
-      elim (ended-or st) [
-        | inl q ↦ ap (λ t. (run_on e w (ending e (suc most) w s t)).actors j) q
-            ∙ ap (λ js. (run_on e w js).actors j) (ending-none (suc most) w s)
-        | inr n ↦ ap (λ js. (run_on e w js).actors j) (ending-one most w s st n)
-            ∙ ending-others most (step e w s) s j ((step e w s).actors s).stage ne
-            ∙ step-other e w s j ne
-      ]
-
   -- they are its own turns
   pub ending-own : (most : ℕ) (w : State) (s : ℕ) (st : Stage Content)
       → (n : ℕ) × (ending e most w s st ≡ replicate n s)

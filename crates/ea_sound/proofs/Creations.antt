@@ -114,9 +114,3 @@ module _ (setup : Setup) (me : ℕ) where
         (record a { instance = creating_single a.instance p ask.need ask.name }))
     by-kind p a false = placed-created (record a { instance = creating a.instance p })
         (chosen_spot (creating a.instance p) ask.need)
-
-    -- a carrier that is created counts once
-    pub created-one : (p : CarrierPlan) (a : Actor) → plan a.instance ask.need ≡ Ok p
-        → (created setup me ask p a).instance.created ≡ a.instance.created + 1
-    created-one p a planned =
-        by-kind p a p.single ∙ plan-birth a.instance ask.need p planned

@@ -68,15 +68,3 @@ module _ (c : Config) (t : Trace) (valid : IsValidConfig c)
 
     pub created-counts : (w.actors me).instance.created + 1 < 2 ^ 32
     created-counts = omega (arith, created-most)
-
-    -- so it is once the row of the scheduler is answered, before a carrier is planned
-    pub advanced-most : (advanced setup w me).instance.created ≤ MAX_OPS + 1
-    advanced-most = omega (
-      arith,
-      few-here,
-      most-few,
-      advanced-births setup w (reached-rule c t valid made w reached) me,
-    )
-
-    pub advanced-counts : (advanced setup w me).instance.created + 1 < 2 ^ 32
-    advanced-counts = omega (arith, advanced-most)

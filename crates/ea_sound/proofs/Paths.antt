@@ -23,13 +23,6 @@ module _ (setup : Setup) (me : ℕ) (a : Actor) (ask : Ask) where
   seek-chosen spot shared chosen = ap (seek_by setup me ask a) shared
       ∙ ap (chosen_by setup me ask a) chosen
 
-  -- or, where there is no choice, in a new carrier
-  pub seek-new : migration setup ≡ false → is_alone a.instance ask.need ≡ false
-      → chosen_spot a.instance ask.need ≡ None → seek setup me ask a
-      ≡ new_carrier setup me ask 0 a
-  seek-new off shared none = ap (seek_by setup me ask a) shared
-      ∙ ap (chosen_by setup me ask a) none ∙ ap (search_if setup me ask a) off
-
   -- a multiblock carrier is created, and the block placed where the strategy chooses then
   pub multi : migration setup ≡ false → (p : CarrierPlan) → plan a.instance ask.need ≡ Ok p
       → (spot : Spot) → p.single ≡ false

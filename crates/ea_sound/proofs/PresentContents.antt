@@ -156,30 +156,6 @@ module _ (e : Setup) (w : State) (k : Kept e w) where
       (λ n. number-at n (place_of e w n) refl) c (greatest_number e) 1 number.0
       (omega (arith, number.1))
 
-  -- what is given for all contents is given number by number
-  if-sum : (f : Content → ℕ) (o : Option Content) (word : Standing) (i : ℕ)
-      → sum_over (λ (p : Present). f p.content) (present_if o word i)
-      ≡ of_option f (first_content (present_if o word i))
-  if-sum f None word i = refl
-  if-sum f (Some x) word i = omega arith
-
-  place-sum : (f : Content → ℕ) (c : ℕ) (p : CarrierAt)
-      → sum_over (λ (q : Present). f q.content) (present_at e w c p)
-      ≡ of_option f (first_content (present_at e w c p))
-  place-sum f c Absent = refl
-  place-sum f c (Employed i) = if-sum f _ standing.Employed i
-  place-sum f c (Pooled i g x) = if-sum f (Some x) standing.Pooled i
-  place-sum f c (Busy i) = if-sum f _ standing.Busy i
-  place-sum f c (Returning i x) = if-sum f (Some x) standing.Returning i
-
-  pub contents-sum : (f : Content → ℕ) → sum_over f contents
-      ≡ sum_over (λ c. of_option f (content_at c)) (range_with_len 1 (greatest_number e))
-  contents-sum f = sum-map f content_in (present e w)
-      ∙ sum-flat (λ (p : Present). f p.content) (λ c. present_at e w c (place_of e w c))
-      (range_with_len 1 (greatest_number e))
-      ∙ sum-same _ (λ c. of_option f (content_at c)) (range_with_len 1 (greatest_number e))
-      (λ j d within. place-sum f _ (place_of e w _))
-
   -- the block of a name that stands
   pub record IsPrinted (p : Spot) : Type 0 where
     pub number : IsNumber e p.carrier
@@ -244,13 +220,6 @@ module _ (e : Setup) (w : State) (k : Kept e w) where
         only_at-itself h.name h.spot,
         part (of_named (only_at h.name h.spot)),
       )))
-
-  -- the units at a spot that is printed
-  pub printed-size : (p : Spot) (is : IsPrinted p)
-      → size_of (block_in contents p) ≡ size_of (block_at is.content.blocks p.offset)
-  printed-size p is =
-      ap (λ o. size_of (option_and_then (λ (x : Content). block_at x.blocks p.offset) o))
-      (present-found p.carrier is.number ∙ is.there)
 
   -- the units of the blocks of names
   abbrev pub of_names : List Named → ℕ

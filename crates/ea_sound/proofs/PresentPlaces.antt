@@ -84,24 +84,6 @@ one-leaves Ended = tt
 one-leaves Ready = tt
 
 module _ (e : Setup) (w : State) (k : Kept e w) where
-  -- a busy carrier
-  pub busy-settling : (c i : ℕ) → place_of e w c ≡ Busy i
-      → (x : Content) × (settling_at (w.actors i).stage ≡ Some x) × (x.number ≡ c)
-  busy-settling c i at = by (settling_at (w.actors i).stage) refl where
-    busy : w.shared.places c ≡ Busy i
-    busy = away-on e w k c (Busy i) (λ j q. cc) (λ q. cc) at
-
-    by : (o : Option Content) → settling_at (w.actors i).stage ≡ o
-        → (x : Content) × (o ≡ Some x) × (x.number ≡ c)
-    by (Some x) there = (x, refl, settling-number e w k c i busy x there)
-    by None none_there = absurd (omega (
-      arith,
-      busy-hand e w k c i busy,
-      hand-leaves (has_number c) none (w.actors i).stage,
-      sum-zero none (leaving_at (w.actors i).stage) (λ j d within. refl),
-      ap (of_option (has_number c)) none_there,
-    ))
-
   module _ (i : ℕ) (is : is_scheduler e i ≡ true) where
     abbrev a : Actor
     a = w.actors i

@@ -127,9 +127,6 @@ module _ (c : Config) (t : Trace) (valid : IsValidConfig c)
     released-found = changing-found (λ x. released x hand.spot.offset)
         (released-keeps hand.spot.offset) at_hand a.instance block.0 block.1
 
-    pub released-has : has_content at_hand (employed after) ≡ true
-    released-has = subst IsSome (sym released-found) refl
-
     module _ (y : Content) (there : content_of (employed after) at_hand ≡ Some y) where
       is-released : released block.0 hand.spot.offset ≡ y
       is-released = same-some (content_of (employed after) at_hand)

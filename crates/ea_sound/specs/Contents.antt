@@ -22,10 +22,6 @@ seats setup = suc setup.schedulers
 abbrev pub slots : Setup → ℕ
 slots setup = suc (greatest_number setup)
 
--- the contents that schedulers employ, one scheduler's after another's
-abbrev pub all_employed : List Actor → List Content
-all_employed actors = flat_map (λ a. employed a.instance) actors
-
 -- the content that a route holds, if it holds one, has the property: a busy one, or one that is
 -- still employed
 abbrev pub OnRoute : (busy employed : Content → Type 0) → Route Content → Type 0

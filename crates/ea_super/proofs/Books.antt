@@ -62,8 +62,3 @@ sections-by : (ss : List (Items Request)) → AllByRecursion (λ s. AsksPages s.
     → AllByRecursion (λ s. All IsRequest s.items) ss
 sections-by [] h = tt
 sections-by (s ∷ ss) h = (requests-of s.items h.0, sections-by ss h.1)
-
-pub sections-of : (ss : List (Items Request)) → All (λ s. AsksPages s.items) ss
-    → All (λ s. All IsRequest s.items) ss
-sections-of ss h = All-from_recursion (λ s. All IsRequest s.items) ss
-    (sections-by ss (recursion_from_All (λ s. AsksPages s.items) ss h))

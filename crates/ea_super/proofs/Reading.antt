@@ -64,15 +64,3 @@ pub accepted : (n : ℕ) (earlier : Earlier) (line : Line)
     → is_reused earlier line ≡ false → is_not_held earlier line ≡ false
     → refusal n earlier line ≡ None
 accepted n earlier line a b c d e = rw (a, b, c, d, e) refl
-
--- a refused line decides
-pub refused-gives : (f : TraceFault) (o : Option TraceFault) (later read : Answer) → IsRefusal f o
-    → refused_or o later ≡ read → Gives (Err f) read
-refused-gives (fault.Syntax line) o later read h e = sym e ∙ ap (λ p. refused_or p later) h
-refused-gives (fault.BadScheduler line) o later read h e = sym e ∙ ap (λ p. refused_or p later) h
-refused-gives (fault.NameReused line) o later read h e = sym e ∙ ap (λ p. refused_or p later) h
-refused-gives (fault.NotHeld line) o later read h e = sym e ∙ ap (λ p. refused_or p later) h
-refused-gives (fault.NotAddressed line) o later read h e = sym e ∙ ap (λ p. refused_or p later) h
-refused-gives (fault.TooMany line) o later read h e = sym e ∙ ap (λ p. refused_or p later) h
-refused-gives fault.NoEnd o later read h e = sym e ∙ ap (λ p. refused_or p later) h
-refused-gives fault.OutOfMemory o later read h e = tt

@@ -64,19 +64,10 @@ seen-shown n seen few p = subst IsShown (sym p.is) (
 )
 
 -- the slot that the seat has
-
-abbrev pub first_slot : List (ℕ × Slot) → Slot
-first_slot [] = None
-first_slot (x ∷ xs) = x.1
-
 module _ (k : ℕ) (y : Slot) (m : Me Slot View) (slot : HasSlot k y m) where
   pub held : (i : ℕ) → i ≡ slot_at k → m.1 ≡ (i, y) ∷ rest m.1
   held i there = slot.slots ∙ ap (λ j. (j, y) ∷ []) (sym there)
       ∙ ap (λ ys. (i, y) ∷ ys) (sym (ap rest slot.slots))
-
-  -- what was found in it
-  pub was-in : (i : ℕ) (x : Slot) → m.1 ≡ (i, x) ∷ rest m.1 → y ≡ x
-  was-in i x is = ap first_slot (sym slot.slots ∙ is)
 
   -- something else is put into it
   pub put-in : (n : Me Slot View) (i : ℕ) (z : Slot) → i ≡ slot_at k
@@ -86,17 +77,6 @@ module _ (k : ℕ) (y : Slot) (m : Me Slot View) (slot : HasSlot k y m) where
     claim = ap (λ (p : Me Slot View). (acting p.0).claim) is ∙ slot.claim;
     slots = ap (λ (p : Me Slot View). p.1) is ∙ ap (λ j. (j, z) ∷ rest m.1) there
         ∙ ap (λ ys. (slot_at k, z) ∷ ys) (ap rest slot.slots);
-  }
-
-  -- it is given back
-  pub given-back : (older : ℕ) (n : Me Slot View) → n ≡ (claimed m.0 0, [])
-      → older ≡ (acting m.0).older → IsIdle older n
-  given-back older n is same = record {
-    bare = ap (λ (p : Me Slot View). p.1) is;
-    unclaimed = ap (λ (p : Me Slot View). (acting p.0).claim) is;
-    single = subst IsSingle (sym (ap (λ (p : Me Slot View). p.0) is))
-        (single-claimed m.0 slot.single 0);
-    older_is = same ∙ sym (ap (λ (p : Me Slot View). (acting p.0).older) is);
   }
 
 -- the slot of a carrier was claimed

@@ -133,19 +133,6 @@ run-after me row got v u d = (
   ap (λ (x : View). x.trace) d.view,
 )
 
--- a row after which it claimed a slot, or gave it back, by a look
-pub did-yielded : (me : ℕ) (row : Row) (got : Answer) (v u w : View) (k : ℕ)
-    → DidRow me row got v u → w ≡ claimed u k → DidRow me row got v w
-did-yielded me row got v u w k d is = record {
-  number = d.number;
-  since = d.since;
-  others = d.others;
-  answered = d.answered;
-  older = d.older;
-  claim = k;
-  view = is ∙ ap (λ (x : View). claimed x k) d.view;
-}
-
 -- a row of a table that tells the caller
 pub caller-did : (me : ℕ) (row : Row) (got : Answer) (v u : View) → DidRow me row got v u
     → Did me row got None None (Some (caller_in v)) (Some (caller_in u))

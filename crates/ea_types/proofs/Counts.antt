@@ -64,9 +64,6 @@ still-skipped = record { section = λ o. refl; texts = λ o. refl; text = λ o. 
 still-letter : (x : Letter) → IsStill (line.Letter x)
 still-letter x = record { section = λ o. refl; texts = λ o. refl; text = λ o. refl }
 
-still-stop : (s : Stop) → IsStill (line.Stop s)
-still-stop s = record { section = λ o. refl; texts = λ o. refl; text = λ o. refl }
-
 still-threads : IsStill line.Threads
 still-threads = record { section = λ o. refl; texts = λ o. refl; text = λ o. refl }
 
@@ -76,14 +73,8 @@ still-schedule = record { section = λ o. refl; texts = λ o. refl; text = λ o.
 still-turns : (ts : List Turns) → IsStill (line.Turns ts)
 still-turns ts = record { section = λ o. refl; texts = λ o. refl; text = λ o. refl }
 
-still-generate : (seed count : ℕ) → IsStill (line.Generate seed count)
-still-generate seed count = record { section = λ o. refl; texts = λ o. refl; text = λ o. refl }
-
 still-end : IsStill line.End
 still-end = record { section = λ o. refl; texts = λ o. refl; text = λ o. refl }
-
-still-unreadable : IsStill line.Unreadable
-still-unreadable = record { section = λ o. refl; texts = λ o. refl; text = λ o. refl }
 
 -- after these lines, of which none is refused, no operation may stand
 abbrev pub IsPast : Stage → Type 0
