@@ -22,3 +22,9 @@ first_two f (a ∷ b ∷ ws) x y flag value le ex ey h k =
     let hx : flag ≡ f a = h ∙ ap f ex in
     let hy : value ≡ f b = k ∙ ap f ey in
     rw (hx, hy, rest_of a b ws) refl
+
+-- the first setting holds before the later ones
+pub set_first : (c : Config) (s : Setting) (read : Read)
+    → config_by c (then_settings s read) ≡ config_by (set_by c s) read
+set_first c s (Ok later) = refl
+set_first c s (Err f) = refl

@@ -116,6 +116,50 @@ start value leaves m t great = record {
   less = λ q from to. absurd (omega (arith, t.power.1));
 }
 
+left_from : (value leaves : ℕ) (m : List ℕ) (e node : ℕ) → IsAbove leaves e node → node < leaves
+    → ((q : ℕ) → leaves ≤ q → q < node * 2 ^ e → get_or m q 0 < value)
+    → value ≤ get_or m (2 * node) 0 → HasComeTo value leaves m (2 * node)
+left_from value leaves m zero node a lt less great = absurd (omega (arith, a.from))
+left_from value leaves m (suc e) node a lt less great = record {
+  levels = e;
+  above = left leaves e node a;
+  great = great;
+  less = λ q from to. less q from (omega (arith, to, doubled node e));
+}
+
+pub go_left : (value leaves : ℕ) (m : List ℕ) (node : ℕ) → HasComeTo value leaves m node
+    → node < leaves → value ≤ get_or m (2 * node) 0 → HasComeTo value leaves m (2 * node)
+go_left value leaves m node h lt great =
+    left_from value leaves m h.levels node h.above lt h.less great
+
+right_from : (value leaves : ℕ) (m : List ℕ) → Greater leaves m → (e node : ℕ)
+    → IsAbove leaves e node → node < leaves
+    → ((q : ℕ) → leaves ≤ q → q < node * 2 ^ e → get_or m q 0 < value)
+    → value ≤ get_or m node 0 → get_or m (2 * node) 0 < value
+    → HasComeTo value leaves m (2 * node + 1)
+right_from value leaves m g zero node a lt less great small = absurd (omega (arith, a.from))
+right_from value leaves m g (suc e) node a lt less great small = record {
+  levels = e;
+  above = right leaves e node a;
+  great = let here : IsGreater m node = g node a.some lt in omega (arith, here, great, small);
+  less = λ q from to.
+      elim (cases_lt q (node * 2 ^ suc e)) [
+        | inl before ↦ less q from before
+        | inr after ↦ omega (
+          arith,
+          small,
+          leaf-le leaves m g e (2 * node) q (left leaves e node a)
+              (omega (arith, after, doubled node e)) (omega (arith, to)),
+        )
+      ];
+}
+
+pub go_right : (value leaves : ℕ) (m : List ℕ) (node : ℕ) → Greater leaves m
+    → HasComeTo value leaves m node → node < leaves → get_or m (2 * node) 0 < value
+    → HasComeTo value leaves m (2 * node + 1)
+go_right value leaves m node g h lt small =
+    right_from value leaves m g h.levels node h.above lt h.less h.great small
+
 first_from : (value leaves : ℕ) (m : List ℕ) (e node : ℕ) → length m ≡ 2 * leaves
     → IsAbove leaves e node → leaves ≤ node
     → ((q : ℕ) → leaves ≤ q → q < node * 2 ^ e → get_or m q 0 < value)
