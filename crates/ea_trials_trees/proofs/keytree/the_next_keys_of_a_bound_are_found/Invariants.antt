@@ -1,5 +1,5 @@
 use Rattle.std.proofs.Common.{◌≡◌, ◌-◌, ◌^◌, vec_len}
-use Rattle.ea_keytree.proofs.tests.the_next_keys_of_a_bound_are_found.Given as goal
+use Rattle.ea_trials_trees.proofs.keytree.the_next_keys_of_a_bound_are_found.Given as goal
 
 -- the tree holds what the list does
 abbrev pub invariant-loop-position : goal.invariant-loop-position

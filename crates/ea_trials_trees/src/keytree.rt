@@ -1,7 +1,7 @@
 //! Steps with known answers, and many steps against plain walks over the keys.
 ghost use Rattle.std.specs.Prelude.{◌≡◌, ℕ, ◌+◌, ◌^◌, ◌<◌, Some, length, vec_len};
 
-use crate::{Found, KeyTree};
+use ea_keytree::{Found, KeyTree};
 use std::test::Fail;
 
 /// Lets the position hold the key, or none, in the tree and in a plain list. A key that another

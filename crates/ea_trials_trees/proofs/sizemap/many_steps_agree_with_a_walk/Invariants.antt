@@ -1,5 +1,5 @@
 use Rattle.std.proofs.Common.{◌≡◌, vec_len}
-use Rattle.ea_sizemap.proofs.tests.many_steps_agree_with_a_walk.Given as goal
+use Rattle.ea_trials_trees.proofs.sizemap.many_steps_agree_with_a_walk.Given as goal
 
 -- the map holds what the list does
 abbrev pub invariant-loop-step : goal.invariant-loop-step

@@ -1,7 +1,7 @@
 //! Steps with known answers, and many steps against plain walks over the sizes.
 ghost use Rattle.std.specs.Prelude.{◌≡◌, ◌^◌, ◌<◌, ◌≤◌, length, vec_len};
 
-use crate::{HeldSize, SizeMap};
+use ea_sizemap::{HeldSize, SizeMap};
 use std::test::Fail;
 
 /// Lets the position hold the size, or none where it is 0, in the map and in a plain list.

@@ -1,5 +1,5 @@
 use Rattle.std.proofs.Common.{◌≡◌, vec_len}
-use Rattle.ea_sizemap.proofs.tests.the_least_that_is_great_enough_is_found.Given as goal
+use Rattle.ea_trials_trees.proofs.sizemap.the_least_that_is_great_enough_is_found.Given as goal
 
 -- the map holds what the list does
 abbrev pub invariant-loop-position : goal.invariant-loop-position

@@ -1,5 +1,5 @@
 //! Worked examples.
-use crate::PosTree;
+use ea_postree::PosTree;
 use std::alloc::Global;
 use std::process::Abort;
 use std::test::Fail;
