@@ -1,7 +1,7 @@
 //! Worked examples.
 ghost use Rattle.std.specs.Prelude.{◌≡◌, [], ◌∷◌, IfOk};
 
-use crate::{CarrierKey, CarrierSet, Found, Order};
+use crate::{CarrierFit, CarrierKey, CarrierSet, Found, Order};
 use ea_model::OutOfMemory;
 use std::alloc::Global;
 use std::test::Fail;
@@ -13,6 +13,16 @@ fn key(number: u32, base: u32, birth: u32) -> CarrierKey
         number,
         base,
         birth,
+    }
+}
+
+/// A carrier at its place, as the set finds it.
+fn found(index: usize, key: CarrierKey, fit: u32) -> Found
+    ensures { result ≡ record { index = index; carrier = record { key = key; fit = fit } } }
+{
+    Found {
+        index,
+        carrier: CarrierFit { key, fit },
     }
 }
 
@@ -111,15 +121,12 @@ fn a_changed_fit_and_a_removed_carrier_count(rt: HostRuntime) -> Result<(), Fail
         (Order::Age, Some(258), Some(1)),
     ] {
         let mut set = four(rt.alloc(), order)?;
-        let third = set.at(1);
-        set.update(third, 50);
+        set.update(found(1, key(3, 0, 2), 10), 50);
         assert_eq!(rt; number(set.first(50)), Some(3));
-        let last = set.at(3);
-        set.update(last, 8);
+        set.update(found(3, key(258, 900, 2), 60), 8);
         assert_eq!(rt; number(set.first(51)), None);
 
-        let third = set.at(1);
-        set.remove(third);
+        set.remove(found(1, key(3, 0, 2), 50));
         assert_eq!(rt; number(set.first(8)), at_8);
         assert_eq!(rt; number(set.first(9)), Some(5));
 
