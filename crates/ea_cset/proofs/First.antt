@@ -14,15 +14,21 @@ use Rattle.ea_model.proofs.Options.{both_some, some_map, unmapped}
 use Rattle.ea_cset.specs.declared.keys.CarrierFit.{CarrierFit}
 use Rattle.ea_cset.specs.declared.keys.Found.{Found}
 use Rattle.ea_model.proofs.Orders.{rising-order, less-order}
-use Rattle.ea_cset.specs.Carriers.{number_of, lower, older}
+use Rattle.ea_cset.specs.declared.keys.Order.{Order}
+use Rattle.ea_cset.specs.declared.keys.Order.TheVariants.{Address, Age}
+use Rattle.ea_cset.specs.Carriers.{comes_first, number_of, lower, older}
 use Rattle.ea_cset.specs.Carriers.{fitting, first_number, number_found, IsFirstOf}
 
-pub lower-order : IsStrictWeakOrder lower
+lower-order : IsStrictWeakOrder lower
 lower-order = rising-order (λ (h : CarrierFit). h.key.base)
 
-pub older-order : IsStrictWeakOrder older
+older-order : IsStrictWeakOrder older
 older-order = less-order (λ (h : CarrierFit). h.key.birth) (λ a b. nat_lt a.key.number b.key.number)
     (rising-order number_of)
+
+pub first-order : (o : Order) → IsStrictWeakOrder (comes_first o)
+first-order Address = lower-order
+first-order Age = older-order
 
 -- none is found exactly where no carrier fits
 pub first_number-none : (before : CarrierFit → CarrierFit → Bool) (need : ℕ) (hs : List CarrierFit)

@@ -13,10 +13,12 @@ use Rattle.ea_model.proofs.Pairs.{pairs_head, pairs_tail}
 use Rattle.ea_model.proofs.Rising.{item_at-All, item_at-each, item_here, item_past}
 use Rattle.ea_cset.specs.declared.keys.CarrierFit.{CarrierFit}
 use Rattle.ea_cset.specs.declared.keys.Found.{Found}
+use Rattle.ea_cset.specs.declared.keys.Order.{Order}
+use Rattle.ea_cset.specs.declared.keys.Order.TheVariants.{Address, Age}
 use Rattle.ea_cset.specs.declared.ranking.Rank.{Rank}
-use Rattle.ea_cset.specs.Carriers.{number_of, carrier_of, carrier_found, number_found, older}
-use Rattle.ea_cset.specs.Carriers.{first_number, IsBefore, IsFirstOf}
-use Rattle.ea_cset.specs.Ranks.{age_key, fits, rank_key, rank_of, IsRankedBy, Ranks}
+use Rattle.ea_cset.specs.Carriers.{number_of, carrier_of, carrier_found, comes_first}
+use Rattle.ea_cset.specs.Carriers.{number_found, first_number, IsBefore, IsFirstOf}
+use Rattle.ea_cset.specs.Ranks.{fits, order_key, rank_key, rank_of, IsRankedBy, Ranks}
 use Rattle.ea_cset.proofs.First.{first_number-none, first_number-IsFirstOf}
 use Rattle.ea_cset.proofs.Rising.{rising}
 
@@ -120,8 +122,9 @@ less-packed b1 n1 b2 n2 s1 s2 =
       ]
     ]
 
-pub age-compares : Compares age_key older
-age-compares a b s t = less-packed a.key.birth a.key.number b.key.birth b.key.number s t
+pub order-compares : (o : Order) → Compares (order_key o) (comes_first o)
+order-compares Address a b s t = refl
+order-compares Age a b s t = less-packed a.key.birth a.key.number b.key.birth b.key.number s t
 
 pub number_found-carrier : (f : Option Found)
     → number_found f ≡ option_map (λ (h : CarrierFit). h.key.number) (carrier_found f)

@@ -1,7 +1,7 @@
 -- Carriers in an order, after a change of the set.
 use Rattle.std.proofs.Common.{◌≡◌, ◌≢◌, ℕ, ◌+◌, List, length, sym, ap, ◌∙◌, subst}
 use Rattle.std.proofs.Common.{refl, inl, inr, arith}
-use Rattle.std.specs.Prelude.{All, Option, Some, None}
+use Rattle.std.specs.Prelude.{All, IsSome, Option, Some, None}
 use Rattle.std.proofs.lemmas.Bool.{cases_eq}
 use Rattle.std.proofs.lemmas.List.{length-map}
 use Rattle.std.proofs.lemmas.List.Kept.{AllPairs-filter}
@@ -89,6 +89,10 @@ module _ (by : CarrierFit → ℕ) (room : ℕ) (hs : List CarrierFit) (o : Rank
     })
 
   module _ (n : ℕ) (c : CarrierFit) (there : carrier_of hs n ≡ Some c) where
+    pub key-there : (k : ℕ) → k ≡ by c → IsSome (item_at rank_key o.ranks k)
+    key-there k is = subst (λ j. IsSome (item_at rank_key o.ranks j)) (sym is)
+        (subst (λ r. IsSome r) (sym (ranked.all n c there)) refl)
+
     -- only it has its key
     same-key : (m : ℕ) (h : CarrierFit) → carrier_of hs m ≡ Some h → by h ≡ by c → m ≡ n
     same-key m h e same =

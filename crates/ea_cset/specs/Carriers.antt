@@ -1,14 +1,18 @@
 -- The carriers of a set, and which of them comes first.
 use Rattle.std.specs.Prelude.{◌≡◌, ◌≢◌, ℕ, ◌<◌, ◌≤◌, Bool, false, if◌then◌else◌}
 use Rattle.std.specs.Prelude.{nat_lt, nat_le, List, Option, All, Any}
-use Rattle.std.specs.Prelude.{filter, map, length, get_or, is_some, option_map}
+use Rattle.std.specs.Prelude.{filter, map, length, get_or, option_map}
 use Rattle.ea_model.specs.Choice.{first, less}
 use Rattle.ea_model.specs.Keyed.{has_key, item_at}
 use Rattle.ea_cset.specs.declared.keys.CarrierFit.{CarrierFit}
 use Rattle.ea_cset.specs.declared.keys.Found.{Found}
+use Rattle.ea_cset.specs.declared.keys.Order.{Order}
+use Rattle.ea_cset.specs.declared.keys.Order.TheVariants.{Address, Age}
 
--- the carriers by rising number, and how many there is room for
+-- the order in which they are searched, the carriers by rising number, and how many there is room
+-- for
 pub record Carriers : Type 0 where
+  pub order : Order
   pub held : List CarrierFit
   pub room : ℕ
 
@@ -19,10 +23,6 @@ number_of h = h.key.number
 -- the carrier with the number
 abbrev pub carrier_of : List CarrierFit → ℕ → Option CarrierFit
 carrier_of hs number = item_at number_of hs number
-
--- whether the carrier with the number is among them
-abbrev pub is_held : ℕ → List CarrierFit → Bool
-is_held number hs = is_some (carrier_of hs number)
 
 -- the carrier, with another fit if it has the number
 abbrev pub with_fit : ℕ → ℕ → CarrierFit → CarrierFit
@@ -39,6 +39,11 @@ lower a b = nat_lt a.key.base b.key.base
 -- whether a is older than b: by birth, among equals by number
 abbrev pub older : CarrierFit → CarrierFit → Bool
 older a b = less a.key.birth b.key.birth (nat_lt a.key.number b.key.number)
+
+-- whether a comes before b
+abbrev pub comes_first : Order → CarrierFit → CarrierFit → Bool
+comes_first Address = lower
+comes_first Age = older
 
 -- the carriers whose largest gap has at least that many units
 abbrev pub fitting : ℕ → List CarrierFit → List CarrierFit

@@ -3,6 +3,8 @@ use Rattle.std.specs.Prelude.{◌≡◌, ℕ, ◌+◌, ◌*◌, ◌^◌, ◌<◌
 use Rattle.std.specs.Prelude.{Some, length, map, slice_index, ◌⊎◌}
 use Rattle.ea_model.specs.Keyed.{item_at, IsBelow}
 use Rattle.ea_cset.specs.declared.keys.CarrierFit.{CarrierFit}
+use Rattle.ea_cset.specs.declared.keys.Order.{Order}
+use Rattle.ea_cset.specs.declared.keys.Order.TheVariants.{Address, Age}
 use Rattle.ea_cset.specs.declared.ranking.Rank.{Rank}
 use Rattle.ea_cset.specs.Carriers.{carrier_of, IsBefore}
 
@@ -51,12 +53,10 @@ pub record IsIndexed (room capacity : ℕ) (rs : List Rank) (values : List ℕ) 
   pub long : length values ≡ room
   pub written : AreFits rs values
 
--- a carrier's key in the order by address, and in that by age
-abbrev pub address_key : CarrierFit → ℕ
-address_key h = h.key.base
-
-abbrev pub age_key : CarrierFit → ℕ
-age_key h = h.key.birth * 2 ^ 32 + h.key.number
+-- a carrier's key in an order
+abbrev pub order_key : Order → CarrierFit → ℕ
+order_key Address h = h.key.base
+order_key Age h = h.key.birth * 2 ^ 32 + h.key.number
 
 -- the carrier with its key
 abbrev pub rank_of : (CarrierFit → ℕ) → CarrierFit → Rank
@@ -74,12 +74,11 @@ pub record IsRankedBy (by : CarrierFit → ℕ) (room : ℕ) (hs : List CarrierF
         → (carrier_of hs r.carrier.key.number ≡ Some r.carrier) × (r.key ≡ by r.carrier)
 
 -- the carriers stand by rising number and have different bases, there is room for them, and memory
--- for the room, and they stand in both orders
-pub record IsKept (room capacity : ℕ) (hs : List CarrierFit) (by_address by_age : Ranks) : Type 0
-  where
-    pub rising : AllPairs IsBefore hs
-    pub small : All (λ h. h.key.number < 2 ^ 32) hs
-    pub within : length hs ≤ room
-    pub reserved : room ≤ capacity
-    pub address : IsRankedBy address_key room hs by_address
-    pub age : IsRankedBy age_key room hs by_age
+-- for the room, and they stand in the order
+pub record IsKept (order : Order) (room capacity : ℕ) (hs : List CarrierFit) (ranking : Ranks)
+    : Type 0 where
+  pub rising : AllPairs IsBefore hs
+  pub small : All (λ h. h.key.number < 2 ^ 32) hs
+  pub within : length hs ≤ room
+  pub reserved : room ≤ capacity
+  pub ranked : IsRankedBy (order_key order) room hs ranking

@@ -1,9 +1,18 @@
 //! What a set knows of a carrier.
 
 ghost use Rattle.std.specs.Prelude.{◌≡◌, ◌<◌, ◌^◌};
-ghost use Rattle.ea_cset.specs.Ranks.{address_key, age_key};
+ghost use Rattle.ea_cset.specs.Ranks.{order_key};
 
 use ea_model::keyed::Keyed;
+
+/// An order among carriers.
+#[derive(Debug, Clone, Copy, PartialEq, Eq)]
+pub enum Order {
+    /// By rising address.
+    Address,
+    /// By rising birth, and among equals by rising number.
+    Age,
+}
 
 /// What tells a carrier from the others, and stays the same while it is employed.
 #[derive(Debug, Clone, Copy, PartialEq, Eq)]
@@ -41,17 +50,13 @@ impl Keyed for CarrierFit {
     }
 }
 
-/// A number that rises with the carrier's address.
-pub fn address_key(carrier: CarrierFit) -> u64
-    ensures { result ≡ address_key carrier }
-{
-    carrier.key.base as u64
-}
-
-/// A number that rises with the carrier's birth, and among equals with its number.
-pub fn age_key(carrier: CarrierFit) -> u64
-    ensures key { result ≡ age_key carrier }
+/// A number that rises along the order.
+pub fn order_key(order: Order, carrier: CarrierFit) -> u64
+    ensures key { result ≡ order_key order carrier }
     ensures small { carrier.key.number < 2 ^ 32 }
 {
-    carrier.key.birth as u64 * (1 << 32) + carrier.key.number as u64
+    match order {
+        Order::Address => carrier.key.base as u64,
+        Order::Age => carrier.key.birth as u64 * (1 << 32) + carrier.key.number as u64,
+    }
 }

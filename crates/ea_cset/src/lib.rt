@@ -1,5 +1,5 @@
-//! The set of the carriers that an allocator instance employs. A strategy finds in it the first
-//! carrier whose largest gap is great enough.
+//! The set of the carriers that an allocator instance employs, in the order of its strategy, which
+//! finds in it the first carrier whose largest gap is great enough.
 #![tactic(auto)]
 
 pub mod keys;
@@ -9,5 +9,5 @@ pub mod set;
 #[cfg(test)]
 mod tests;
 
-pub use keys::{CarrierFit, CarrierKey, Found};
+pub use keys::{CarrierFit, CarrierKey, Found, Order};
 pub use set::CarrierSet;

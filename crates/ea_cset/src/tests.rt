@@ -1,7 +1,7 @@
 //! Worked examples.
 ghost use Rattle.std.specs.Prelude.{◌≡◌, [], ◌∷◌, IfOk};
 
-use crate::{CarrierKey, CarrierSet, Found};
+use crate::{CarrierFit, CarrierKey, CarrierSet, Found, Order};
 use ea_model::OutOfMemory;
 use std::alloc::Global;
 use std::test::Fail;
@@ -16,19 +16,30 @@ fn key(number: u32, base: u32, birth: u32) -> CarrierKey
     }
 }
 
+/// A carrier at its place, as the set finds it.
+fn found(index: usize, key: CarrierKey, fit: u32) -> Found
+    ensures { result ≡ record { index = index; carrier = record { key = key; fit = fit } } }
+{
+    Found {
+        index,
+        carrier: CarrierFit { key, fit },
+    }
+}
+
 fn number(found: Option<Found>) -> Option<u32> {
     found.map(|f: Found| f.carrier.key.number)
 }
 
 /// Four carriers, whose order by number is neither that by base nor that by age.
-fn four(alloc: Global) -> Result<CarrierSet, OutOfMemory>
-    ensures { IfOk result
+fn four(alloc: Global, order: Order) -> Result<CarrierSet, OutOfMemory>
+    ensures order { IfOk result (λ s. s.order ≡ order) }
+    ensures held { IfOk result
         (λ s. s.held ≡ record { key = record { number = 1; base = 300; birth = 9 }; fit = 40 } ∷
         record { key = record { number = 3; base = 0; birth = 2 }; fit = 10 } ∷ record
         { key = record { number = 5; base = 100; birth = 7 }; fit = 20 } ∷ record
         { key = record { number = 258; base = 900; birth = 2 }; fit = 60 } ∷ []) }
 {
-    let mut set = CarrierSet::new(alloc, 4)?;
+    let mut set = CarrierSet::new(alloc, order, 4)?;
     set.add(key(1, 300, 9), 40);
     set.add(key(5, 100, 7), 20);
     set.add(key(258, 900, 2), 60);
@@ -38,7 +49,8 @@ fn four(alloc: Global) -> Result<CarrierSet, OutOfMemory>
 
 #[test]
 fn an_order_finds_its_first_carrier_that_fits(rt: HostRuntime) -> Result<(), Fail> {
-    let set = four(rt.alloc())?;
+    let lower = four(rt.alloc(), Order::Address)?;
+    let older = four(rt.alloc(), Order::Age)?;
     for (need, by_address, by_age) in [
         (0, Some(3), Some(3)),
         (10, Some(3), Some(3)),
@@ -49,15 +61,15 @@ fn an_order_finds_its_first_carrier_that_fits(rt: HostRuntime) -> Result<(), Fai
         (60, Some(258), Some(258)),
         (61, None, None),
     ] {
-        assert_eq!(rt; number(set.first_by_address(need)), by_address);
-        assert_eq!(rt; number(set.first_by_age(need)), by_age);
+        assert_eq!(rt; number(lower.first(need)), by_address);
+        assert_eq!(rt; number(older.first(need)), by_age);
     }
     Ok(())
 }
 
 #[test]
-fn a_number_finds_the_place_of_its_carrier(rt: HostRuntime) -> Result<(), Fail> {
-    let set = four(rt.alloc())?;
+fn a_number_finds_its_carrier_and_its_place(rt: HostRuntime) -> Result<(), Fail> {
+    let set = four(rt.alloc(), Order::Age)?;
     for (number, place) in [
         (0, None),
         (1, Some(0)),
@@ -67,15 +79,16 @@ fn a_number_finds_the_place_of_its_carrier(rt: HostRuntime) -> Result<(), Fail> 
         (258, Some(3)),
         (259, None),
     ] {
-        assert_eq!(rt; set.find(number), place);
+        assert_eq!(rt; set.find(number).map(|f: Found| f.index), place);
     }
     Ok(())
 }
 
 #[test]
 fn a_base_finds_the_carrier_that_begins_last_up_to_it(rt: HostRuntime) -> Result<(), Fail> {
-    let mut set = four(rt.alloc())?;
-    set.remove(3);
+    let mut set = four(rt.alloc(), Order::Address)?;
+    let lowest = set.at(1);
+    set.remove(lowest);
     for (base, last) in [
         (0, None),
         (99, None),
@@ -94,29 +107,33 @@ fn a_base_finds_the_carrier_that_begins_last_up_to_it(rt: HostRuntime) -> Result
 
 #[test]
 fn an_empty_set_finds_none(rt: HostRuntime) -> Result<(), Fail> {
-    let set = CarrierSet::new(rt.alloc(), 250)?;
-    assert_eq!(rt; number(set.first_by_address(0)), None);
-    assert_eq!(rt; number(set.first_by_age(0)), None);
+    for order in [Order::Address, Order::Age] {
+        let set = CarrierSet::new(rt.alloc(), order, 250)?;
+        assert_eq!(rt; number(set.first(0)), None);
+    }
     Ok(())
 }
 
 #[test]
 fn a_changed_fit_and_a_removed_carrier_count(rt: HostRuntime) -> Result<(), Fail> {
-    let mut set = four(rt.alloc())?;
-    set.update(3, 50);
-    assert_eq!(rt; number(set.first_by_address(50)), Some(3));
-    assert_eq!(rt; number(set.first_by_age(50)), Some(3));
-    set.update(258, 8);
-    assert_eq!(rt; number(set.first_by_age(51)), None);
+    for (order, at_8, at_40) in [
+        (Order::Address, Some(5), Some(3)),
+        (Order::Age, Some(258), Some(1)),
+    ] {
+        let mut set = four(rt.alloc(), order)?;
+        set.update(found(1, key(3, 0, 2), 10), 50);
+        assert_eq!(rt; number(set.first(50)), Some(3));
+        set.update(found(3, key(258, 900, 2), 60), 8);
+        assert_eq!(rt; number(set.first(51)), None);
 
-    set.remove(3);
-    assert_eq!(rt; number(set.first_by_address(0)), Some(5));
-    assert_eq!(rt; number(set.first_by_age(8)), Some(258));
-    assert_eq!(rt; number(set.first_by_age(9)), Some(5));
+        set.remove(found(1, key(3, 0, 2), 50));
+        assert_eq!(rt; number(set.first(8)), at_8);
+        assert_eq!(rt; number(set.first(9)), Some(5));
 
-    // The number and the base are free again, and so is the room.
-    set.add(key(3, 0, 11), 90);
-    assert_eq!(rt; number(set.first_by_age(41)), Some(3));
-    assert_eq!(rt; number(set.first_by_age(40)), Some(1));
+        // The number and the base are free again, and so is the room.
+        set.add(key(3, 0, 11), 90);
+        assert_eq!(rt; number(set.first(41)), Some(3));
+        assert_eq!(rt; number(set.first(40)), at_40);
+    }
     Ok(())
 }

@@ -11,25 +11,27 @@ use Rattle.ea_model.specs.Choice.{first}
 use Rattle.ea_model.specs.Strategies.{candidates, choice_among, large_enough}
 use Rattle.ea_model.specs.Strategies.{inner_of, lower, only}
 use Rattle.ea_model.proofs.First.{large-here, large-past}
-use Rattle.ea_cset.specs.Carriers.{Carriers, first_number}
+use Rattle.ea_cset.specs.Carriers.{comes_first, first_number, Carriers}
 use Rattle.ea_cset.specs.Carriers as sets
 use Rattle.ea_goodfit.specs.Gaps.{HeldGaps}
 use Rattle.ea_employed.specs.Listed.{candidate_in, IsListed}
 use Rattle.ea_laws.proofs.Candidates.{large-all}
 use Rattle.ea_employed.specs.Laid.{AreLaid}
+use Rattle.ea_employed.specs.Searches.{order_among}
 use Rattle.ea_employed.proofs.ByCarrier.{choice-first}
 use Rattle.ea_employed.proofs.TwoCarriers.{af-GoesBy}
 
 -- the first gap of the lowest carrier that has one is the lowest candidate
 pub lowest-found : (t : Strategy) (units : ℕ) (cs now : List Content) (set : Carriers)
     (bins : Option HeldGaps) → IsListed t units cs set bins → cs ≡ now → AreLaid now
-    → (s : Strategy) → s ≡ Af → (number : Option ℕ) (found : Option Candidate)
-    → number ≡ first_number sets.lower 1 set.held
+    → (s : Strategy) → t ≡ s → s ≡ Af → (number : Option ℕ) (found : Option Candidate)
+    → number ≡ first_number (comes_first set.order) 1 set.held
     → found ≡ option_and_then (candidate_in (inner_of s) 1 now) number
     → found ≡ first lower (candidates now)
-lowest-found t units cs now set bins listed seen laid s af number found first_is is =
+lowest-found t units cs now set bins listed seen laid s same af number found first_is is =
     choice-first Af sets.lower af-GoesBy 1 (omega arith) t units cs now set bins listed seen laid
-    number found first_is
+    number found (first_is
+    ∙ ap (λ o. first_number (comes_first o) 1 set.held) (listed.order ∙ ap order_among (same ∙ af)))
     (is ∙ ap (λ u. option_and_then (candidate_in (inner_of u) 1 now) number) af)
     ∙ ap (first lower) (large-all now laid.sound)
 

@@ -1,37 +1,49 @@
 -- A change of the content at an index of the carriers.
-use Rattle.std.proofs.Common.{◌≡◌, ℕ, zero, suc, ◌+◌, ◌<◌, ◌≤◌, List, [], ◌∷◌, All, length}
+use Rattle.std.proofs.Common.{◌≡◌, ℕ, ◌+◌, ◌<◌, ◌≤◌, List, [], ◌∷◌, All, length}
 use Rattle.std.proofs.Common.{get_or, map, set, sym, ap, ◌∙◌, subst, refl, inl, inr, arith}
-use Rattle.std.specs.Prelude.{Option, Some, IsSome}
+use Rattle.std.specs.Prelude.{remove, Option, Some, IsSome}
+use Rattle.std.specs.List.{position_or_len}
 use Rattle.std.specs.Option.{option_and_then}
 use Rattle.std.proofs.lemmas.List.{get_or_default}
 use Rattle.std.proofs.lemmas.Bool.{cases_eq}
+use Rattle.std.proofs.lemmas.Bool.Decides.{nat_tests}
+use Rattle.std.proofs.lemmas.List.Sums.{position_or_len_is}
 use Rattle.std.proofs.lemmas.List.Elements.{All-head, All-tail}
 use Rattle.ea_model.specs.declared.carriers.BlockAt.{BlockAt}
-use Rattle.ea_model.specs.Keyed.{IsBelow}
+use Rattle.ea_model.specs.Keyed.{has_key}
 use Rattle.ea_model.specs.Content.{Content, block_at, Tiled}
-use Rattle.ea_model.specs.Instance.{block_in, content_of, changed}
-use Rattle.ea_model.proofs.Pairs.{pairs_head, pairs_tail}
-use Rattle.ea_model.proofs.Rising.{changed_here, changed_none, changed_past}
-use Rattle.ea_model.proofs.Rising.{item_at-each, item_at-key, others}
+use Rattle.ea_model.specs.Instance.{block_in, content_of, changed, without_content}
+use Rattle.ea_model.proofs.Rising.{changed_here, changed_past, item_at-each, item_at-key}
+use Rattle.ea_model.proofs.Rising.{remove-without, set-changed}
 use Rattle.ea_laws.specs.Kept.{number_of, IsRising}
 use Rattle.ea_laws.proofs.BlockLists.{block_at-past}
 use Rattle.ea_laws.proofs.Tiling.{Tiled-allocated}
 use Rattle.ea_employed.specs.Choices.{IsChoice}
 use Rattle.ea_employed.specs.declared.choice.Choice.{Choice}
 
+-- the content at an index stands where its number is found
+at-number : (i : ℕ) (d : Content) (cs : List Content) → IsRising cs → i < length cs
+    → i ≡ position_or_len (has_key number_of (get_or cs i d).number) cs
+at-number i d cs rising lt =
+    sym (position_or_len_is (has_key number_of (get_or cs i d).number) cs i d (omega (arith, lt))
+    (λ k le. let below : (get_or cs k d).number < (get_or cs i d).number = rising k i d le lt in
+    grind (arith, nat_tests)) (λ _. grind (arith, nat_tests)))
+
 set-at : (f : Content → Content) (i : ℕ) (d : Content) (cs : List Content) → IsRising cs
     → i < length cs → set cs i (f (get_or cs i d)) ≡ changed f (get_or cs i d).number cs
-set-at f i d [] rising lt = absurd (omega arith)
-set-at f zero d (c ∷ cs) rising lt =
-    sym (changed_here number_of f c.number c cs refl
-    ∙ ap (λ l. f c ∷ l) (changed_none number_of f c.number cs
-    (others number_of c.number c cs rising refl)))
-set-at f (suc i) d (c ∷ cs) rising lt =
-    let x = get_or cs i d in
-    let below : c.number < x.number =
-    pairs_head (IsBelow number_of) c cs rising i d (omega arith) in
-    ap (λ l. c ∷ l) (set-at f i d cs (pairs_tail (IsBelow number_of) c cs rising) (omega arith))
-    ∙ sym (changed_past number_of f x.number c cs (λ e. omega (arith, below, e)))
+set-at f i d cs rising lt =
+    let place = at-number i d cs rising lt in
+    ap (λ k. set cs k (f (get_or cs k d))) place
+    ∙ set-changed number_of f (get_or cs i d).number d cs rising (subst (λ k. k < length cs) place
+    lt)
+
+pub remove-at : (i : ℕ) (d : Content) (cs : List Content) → IsRising cs → i < length cs
+    → remove cs i ≡ without_content (get_or cs i d).number cs
+remove-at i d cs rising lt =
+    let place = at-number i d cs rising lt in
+    ap (remove cs) place
+    ∙ remove-without number_of (get_or cs i d).number cs rising (subst (λ k. k < length cs) place
+    lt)
 
 -- the content of the number n stands at index i
 pub record IsAt (cs : List Content) (i n : ℕ) (item : Content) : Type 0 where

@@ -1,7 +1,8 @@
 -- What a call makes of one of the carriers.
-use Rattle.std.proofs.Common.{◌≡◌, ℕ, ◌+◌, ◌*◌, ◌%◌, ◌<◌, ◌≤◌, List, length}
+use Rattle.std.proofs.Common.{◌≡◌, ℕ, ◌+◌, ◌*◌, ◌%◌, ◌<◌, ◌≤◌, List}
 use Rattle.std.proofs.Common.{get_or, set, ap, ◌∙◌, subst, refl, sym, arith}
-use Rattle.std.specs.Prelude.{Option, Some, None, IfSome, IsSome, option_map}
+use Rattle.std.specs.Option.{option_and_then}
+use Rattle.std.specs.Prelude.{remove, Option, Some, None, IfSome, IsSome, option_map}
 use Rattle.ea_model.specs.declared.carriers.BlockAt.{BlockAt}
 use Rattle.ea_model.specs.declared.carriers.Candidate.{Candidate}
 use Rattle.ea_model.specs.declared.carriers.Kind.{Kind}
@@ -9,9 +10,10 @@ use Rattle.ea_model.specs.declared.units.TheConstants.{HEADER_UNITS, MAX_UNITS}
 use Rattle.ea_model.specs.declared.units.TheConstants.{MIN_BLOCK, PAGE_UNITS}
 use Rattle.ea_model.specs.Content.{Content, block_at, gaps_of, gap_before, gap_behind, largest}
 use Rattle.ea_model.specs.Content.{placed, released, resized, size_of, taken_of, Tiled}
-use Rattle.ea_model.specs.Instance.{block_in, changed, content_of}
+use Rattle.ea_model.specs.Instance.{block_in, changed, content_of, without_content}
 use Rattle.ea_model.proofs.Options.{some_holds, some_value}
-use Rattle.ea_model.proofs.Rising.{item_at-All}
+use Rattle.ea_model.proofs.Rising.{item_at-All, item_at-key}
+use Rattle.ea_cset.specs.declared.keys.Found.{Found}
 use Rattle.ea_mbc.specs.Gaps.{room_at, GapResized, GapTaken, GapsJoined}
 use Rattle.ea_mbc.specs.declared.carrier.Freed.{Freed}
 use Rattle.ea_mbc.specs.declared.carrier.Placed.{Placed}
@@ -21,9 +23,10 @@ use Rattle.ea_laws.proofs.Resized.{block_at-IsBlock, grown-tiled, shrunk-tiled}
 use Rattle.ea_employed.specs.declared.choice.Choice.{Choice}
 use Rattle.ea_employed.specs.Laid.{AreLaid}
 use Rattle.ea_employed.specs.Choices.{IsChoice, IsChosenIn}
-use Rattle.ea_employed.specs.Listed.{CarrierList}
-use Rattle.ea_employed.proofs.Changed.{at_choice, at_index, block-there, block-within}
-use Rattle.ea_employed.proofs.Changed.{choice-same, same-item, set_is_changed, IsAt}
+use Rattle.ea_employed.specs.Listed.{CarrierList, StandsAmong}
+use Rattle.ea_employed.proofs.Changed.{at_choice, block-there, block-within}
+use Rattle.ea_employed.proofs.Changed.{choice-same, remove-at, same-item, set_is_changed, IsAt}
+use Rattle.ea_employed.proofs.Finding.{found-there, found-within}
 
 -- a block was placed in the gap
 pub record IsPlacing (need name : ℕ) (x : Candidate) (p : Placed) (old new : List Content) : Type 0
@@ -90,29 +93,81 @@ pub record IsFound (cs : List Content) (number offset i : ℕ) (item : Content) 
   pub begins : IsSome (block_at item.blocks offset)
   pub within : offset ≤ item.units
 
-pub found-at : (l now : CarrierList) (number offset i : ℕ) (item : Content)
-    → l ≡ now → AreLaid now.contents
-    → IsSome (block_in now.contents (record { carrier = number; offset = offset }))
-    → i < length now.contents
-    → ((d : Content) → content_of now.contents number ≡ Some (get_or now.contents i d))
-    → item ≡ get_or l.contents i item → IsFound l.contents number offset i item
-found-at l now number offset i item same laid block within found is =
+-- the carrier with the number, which is laid out, was taken out
+pub record IsTakenOut (number : ℕ) (item : Content) (old new : List Content) : Type 0 where
+  pub laid : AreLaid old
+  pub there : content_of old number ≡ Some item
+  pub sound : IsLaidOut item
+  pub rest : new ≡ without_content number old
+
+pub found-at : (l now : CarrierList) (f : Found) (offset : ℕ) (item : Content)
+    → l ≡ now → AreLaid now.contents → StandsAmong now.contents f
+    → IsSome (block_in now.contents (record { carrier = f.carrier.key.number; offset = offset }))
+    → item ≡ get_or l.contents f.index item
+    → IsFound l.contents f.carrier.key.number offset f.index item
+found-at l now f offset item same laid stands block is =
     let cs = l.contents in
+    let number = f.carrier.key.number in
     let here = subst (λ (m : CarrierList). AreLaid m.contents) (sym same) laid in
-    let at = at_index cs now.contents i number item
-    (ap (λ (m : CarrierList). m.contents) (sym same)) within found is in
-    let begins = block-there (λ b. IsSome b) cs number offset item at.there
+    let in_list = subst (λ (m : CarrierList). StandsAmong m.contents f) (sym same) stands in
+    let there = found-there cs f item here.rising in_list is in
+    let begins = block-there (λ b. IsSome b) cs number offset item there
     (subst (λ (m : CarrierList). IsSome (block_in m.contents (record {
       carrier = number;
       offset = offset;
     }))) (sym same) block) in
-    let sound = item_at-All number_of IsLaidOut number item cs here.sound at.there in
+    let sound = item_at-All number_of IsLaidOut number item cs here.sound there in
     record {
-      at = at;
+      at = record {
+        within = found-within cs f in_list;
+        is = is;
+        number = item_at-key number_of number item cs there;
+        there = there;
+      };
       laid = here;
       sound = sound;
       begins = begins;
       within = block-within 8 item.units offset item.blocks sound.tiled begins;
+    }
+
+-- what is read of the carrier that was found
+module _ (l now : CarrierList) (f : Found) (offset : ℕ) (item carrier : Content) (kind : Kind)
+    (same : l ≡ now) (laid : AreLaid now.contents) (stands : StandsAmong now.contents f)
+    (is : item ≡ get_or l.contents f.index item) (view : record carrier { kind = kind } ≡ item)
+  where
+    pub found-content : content_of now.contents f.carrier.key.number
+        ≡ Some (record carrier { kind = kind })
+    found-content =
+        ap (λ (m : CarrierList). content_of m.contents f.carrier.key.number) (sym same)
+        ∙ found-there l.contents f item
+        (subst (λ (m : CarrierList). AreLaid m.contents) (sym same) laid).rising
+        (subst (λ (m : CarrierList). StandsAmong m.contents f) (sym same) stands) is
+        ∙ ap Some (sym view)
+
+    pub found-block : block_in now.contents (record {
+      carrier = f.carrier.key.number;
+      offset = offset;
+    }) ≡ block_at carrier.blocks offset
+    found-block = ap (option_and_then (λ (c : Content). block_at c.blocks offset)) found-content
+
+-- the carrier that was found is taken out
+pub taking-out : (l now : CarrierList) (f : Found) (item : Content) (new : List Content)
+    → l ≡ now → AreLaid now.contents → StandsAmong now.contents f
+    → item ≡ get_or l.contents f.index item → new ≡ remove l.contents f.index
+    → IsTakenOut f.carrier.key.number item l.contents new
+taking-out l now f item new same laid stands is gone =
+    let cs = l.contents in
+    let here = subst (λ (m : CarrierList). AreLaid m.contents) (sym same) laid in
+    let in_list = subst (λ (m : CarrierList). StandsAmong m.contents f) (sym same) stands in
+    let there = found-there cs f item here.rising in_list is in
+    record {
+      laid = here;
+      there = there;
+      sound = item_at-All number_of IsLaidOut f.carrier.key.number item cs here.sound there;
+      rest =
+          gone ∙ remove-at f.index item cs here.rising (found-within cs f in_list)
+          ∙ ap (λ n. without_content n cs) (ap number_of (sym is)
+          ∙ item_at-key number_of f.carrier.key.number item cs there);
     }
 
 -- a block placed in the chosen gap
@@ -180,20 +235,28 @@ resizing-low number offset units name address r cs new laid w =
 
 -- the carrier with the number, `item`, becomes `next`, and keeps its kind; `here` is what was read
 -- of it before
-module _ (l now : CarrierList) (number offset i : ℕ) (here item : Content)
-    (same : l ≡ now) (laid : AreLaid now.contents)
-    (block : IsSome (block_in now.contents (record { carrier = number; offset = offset })))
-    (within : i < length now.contents)
-    (found : (d : Content) → content_of now.contents number ≡ Some (get_or now.contents i d))
-    (is_here : here ≡ get_or l.contents i here) (is_item : item ≡ get_or l.contents i item) where
+module _ (l now : CarrierList) (f : Found) (offset : ℕ) (here item : Content)
+    (same : l ≡ now) (laid : AreLaid now.contents) (stands : StandsAmong now.contents f)
+    (block : IsSome (block_in now.contents (record {
+      carrier = f.carrier.key.number;
+      offset = offset;
+    })))
+    (is_here : here ≡ get_or l.contents f.index here)
+    (is_item : item ≡ get_or l.contents f.index item) where
   abbrev cs : List Content
   cs = l.contents
 
+  abbrev number : ℕ
+  number = f.carrier.key.number
+
+  abbrev i : ℕ
+  i = f.index
+
   was : IsFound cs number offset i here
-  was = found-at l now number offset i here same laid block within found is_here
+  was = found-at l now f offset here same laid stands block is_here
 
   w : IsFound cs number offset i item
-  w = found-at l now number offset i item same laid block within found is_item
+  w = found-at l now f offset item same laid stands block is_item
 
   found-more : (need : ℕ)
       → size_of (block_in now.contents (record { carrier = number; offset = offset })) < need
@@ -233,13 +296,13 @@ module _ (l now : CarrierList) (number offset i : ℕ) (here item : Content)
           → r.largest ≡ largest (gaps_of next) → GapsJoined carrier next offset r.size
           → IsReleasing number offset address r cs (set cs i (record next { kind = kind }))
       releasing address r place is size gaps most joined =
-          let f : Content → Content = λ m. released m offset in
-          let made : record next { kind = kind } ≡ f item =
-          ap (λ (m : Content). record m { kind = kind }) is ∙ ap f view in
+          let g : Content → Content = λ m. released m offset in
+          let made : record next { kind = kind } ≡ g item =
+          ap (λ (m : Content). record m { kind = kind }) is ∙ ap g view in
           record {
             content = item;
             there = w.at.there;
-            is = set_is_changed f cs i number item (record next { kind = kind }) w.at w.laid.rising
+            is = set_is_changed g cs i number item (record next { kind = kind }) w.at w.laid.rising
                 made;
             block = w.begins;
             size = with_size (block_at carrier.blocks offset) r.size size
@@ -248,7 +311,7 @@ module _ (l now : CarrierList) (number offset i : ℕ) (here item : Content)
             before = gaps.0 ∙ ap (λ m. gap_before m offset) view;
             after = gaps.1 ∙ ap (λ m. gap_behind m offset) view;
             largest = most ∙ ap (λ m. largest (gaps_of m)) made;
-            joined = subst (λ m. GapsJoined m (f item) offset r.size) view
+            joined = subst (λ m. GapsJoined m (g item) offset r.size) view
                 (subst (λ m. GapsJoined (record carrier { kind = kind }) m offset r.size) made
                 joined);
           }
@@ -264,9 +327,9 @@ module _ (l now : CarrierList) (number offset i : ℕ) (here item : Content)
             kind = kind;
           }))
       resizing units name address r place is size after now most tiled gap =
-          let f : Content → Content = λ m. resized m offset (units item) name in
-          let made : record next { kind = kind } ≡ f item =
-          ap (λ (m : Content). record m { kind = kind }) is ∙ ap f view in
+          let g : Content → Content = λ m. resized m offset (units item) name in
+          let made : record next { kind = kind } ≡ g item =
+          ap (λ (m : Content). record m { kind = kind }) is ∙ ap g view in
           record {
             content = item;
             there = w.at.there;
@@ -281,7 +344,7 @@ module _ (l now : CarrierList) (number offset i : ℕ) (here item : Content)
               size = now;
               largest = most ∙ ap (λ m. largest (gaps_of m)) made;
               tiled = tiled;
-              gap = subst (λ m. GapResized m (f item) offset r.was r.size) view
+              gap = subst (λ m. GapResized m (g item) offset r.was r.size) view
                   (subst (λ m. GapResized (record carrier { kind = kind }) m offset r.was r.size)
                   made
                   gap);
@@ -341,14 +404,14 @@ module _ (l now : CarrierList) (number offset i : ℕ) (here item : Content)
           → gaps_of next ≡ gaps_of carrier
           → IsRenaming number offset name cs (set cs i (record next { kind = kind }))
       renaming name is same =
-          let f : Content → Content =
+          let g : Content → Content =
           λ m. resized m offset (size_of (block_at m.blocks offset)) name in
-          let made : record next { kind = kind } ≡ f item =
-          ap (λ (m : Content). record m { kind = kind }) is ∙ ap f view in
+          let made : record next { kind = kind } ≡ g item =
+          ap (λ (m : Content). record m { kind = kind }) is ∙ ap g view in
           record {
             content = item;
             there = w.at.there;
-            is = set_is_changed f cs i number item (record next { kind = kind }) w.at w.laid.rising
+            is = set_is_changed g cs i number item (record next { kind = kind }) w.at w.laid.rising
                 made;
             gaps = sym (ap gaps_of made) ∙ same ∙ ap gaps_of view;
           }

@@ -10,36 +10,37 @@ use Rattle.ea_model.specs.Content.{Content}
 use Rattle.ea_model.specs.Choice.{first}
 use Rattle.ea_model.specs.Strategies.{candidates, choice_among, large_enough, may_miss, or_else}
 use Rattle.ea_model.specs.Strategies.{takes_first}
+use Rattle.ea_cset.specs.declared.keys.Order.TheVariants.{Address}
 use Rattle.ea_laws.proofs.Inspected.{all_inspected}
 use Rattle.ea_employed.specs.Binned.{has_bins}
 use Rattle.ea_employed.specs.Choices.{candidate_of}
 use Rattle.ea_employed.specs.declared.choice.Choice.{Choice}
-use Rattle.ea_employed.specs.Searches.{search_of}
-use Rattle.ea_employed.specs.declared.strategies.Search.TheVariants.{Address, Age, Bins, Lowest}
+use Rattle.ea_employed.specs.Searches.{order_among, search_of}
+use Rattle.ea_employed.specs.declared.strategies.Search.TheVariants.{First, Bins, Lowest}
 
-pub address-miss_none : (s : Strategy) → search_of s ≡ Address → may_miss s ≡ false
-address-miss_none Bf e = absurd cc
-address-miss_none Aobf e = absurd cc
-address-miss_none Aoff e = refl
-address-miss_none AoffCbf e = refl
-address-miss_none AoffCaobf e = refl
-address-miss_none AgeffCaoff e = absurd cc
-address-miss_none AgeffCbf e = absurd cc
-address-miss_none AgeffCaobf e = absurd cc
-address-miss_none Gf e = absurd cc
-address-miss_none Af e = absurd cc
+pub first-miss_none : (s : Strategy) → search_of s ≡ First → may_miss s ≡ false
+first-miss_none Bf e = absurd cc
+first-miss_none Aobf e = absurd cc
+first-miss_none Aoff e = refl
+first-miss_none AoffCbf e = refl
+first-miss_none AoffCaobf e = refl
+first-miss_none AgeffCaoff e = refl
+first-miss_none AgeffCbf e = refl
+first-miss_none AgeffCaobf e = refl
+first-miss_none Gf e = absurd cc
+first-miss_none Af e = absurd cc
 
-pub age-miss_none : (s : Strategy) → search_of s ≡ Age → may_miss s ≡ false
-age-miss_none Bf e = absurd cc
-age-miss_none Aobf e = absurd cc
-age-miss_none Aoff e = absurd cc
-age-miss_none AoffCbf e = absurd cc
-age-miss_none AoffCaobf e = absurd cc
-age-miss_none AgeffCaoff e = refl
-age-miss_none AgeffCbf e = refl
-age-miss_none AgeffCaobf e = refl
-age-miss_none Gf e = absurd cc
-age-miss_none Af e = absurd cc
+pub bins-Address : (s : Strategy) → has_bins s ≡ true → order_among s ≡ Address
+bins-Address Bf e = refl
+bins-Address Aobf e = refl
+bins-Address Aoff e = refl
+bins-Address AoffCbf e = refl
+bins-Address AoffCaobf e = refl
+bins-Address AgeffCaoff e = absurd cc
+bins-Address AgeffCbf e = absurd cc
+bins-Address AgeffCaobf e = absurd cc
+bins-Address Gf e = refl
+bins-Address Af e = refl
 
 pub bins-has_bins : (s : Strategy) → search_of s ≡ Bins → has_bins s ≡ true
 bins-has_bins Bf e = refl

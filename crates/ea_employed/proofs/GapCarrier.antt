@@ -33,7 +33,7 @@ use Rattle.ea_employed.specs.Laid.{AreLaid}
 use Rattle.ea_employed.specs.Listed.{all_gaps, gap_of, held_of, located, spans, CarrierList}
 use Rattle.ea_employed.specs.Listed.{IsListed}
 use Rattle.ea_employed.proofs.Gaps.{found_here}
-use Rattle.ea_employed.proofs.Listed.{found-held, found-there, found-within}
+use Rattle.ea_employed.proofs.Finding.{found-held, found-there, found-within}
 use Rattle.ea_employed.proofs.Located.{found-chosen}
 
 -- x is a gap of one of the carriers

@@ -1,6 +1,7 @@
 pub mod AddressFit
 pub mod BinsAfter
 pub mod ByCarrier
+pub mod Finding
 pub mod Changed
 pub mod Changing
 pub mod Choosing

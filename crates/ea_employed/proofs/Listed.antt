@@ -1,25 +1,20 @@
 -- The set of the carriers, after a change.
-use Rattle.std.proofs.Common.{◌≡◌, ◌<◌, ◌≤◌, ◌≢◌, ℕ, true, false, List, [], ◌∷◌, map, All}
-use Rattle.std.proofs.Common.{AllPairs, get_or, length, sym, ap, ◌∙◌, subst, refl, inl, inr, arith}
+use Rattle.std.proofs.Common.{◌≡◌, ◌≤◌, ◌≢◌, ℕ, true, false, List, [], ◌∷◌, map, All}
+use Rattle.std.proofs.Common.{AllPairs, sym, ap, ◌∙◌, subst, refl, inl, inr, arith}
 use Rattle.std.proofs.Common.{suc, Bool}
-use Rattle.std.specs.Prelude.{Option, IfSome, IsSome, None, Some, is_some, option_map, sum_by}
+use Rattle.std.specs.Prelude.{Option, None, Some, is_some, sum_by}
 use Rattle.std.specs.Prelude.{◌+◌, ◌*◌, ◌==◌}
 use Rattle.std.proofs.lemmas.Bool.{cases_eq}
 use Rattle.std.proofs.lemmas.List.Elements.{All-head, All-tail}
 use Rattle.ea_model.specs.declared.units.TheConstants.{MAX_SCHEDULERS, NUMBERS}
 use Rattle.ea_model.specs.Content.{Content, gaps_of, largest}
-use Rattle.ea_model.specs.Instance.{changed, content_of, has_content}
+use Rattle.ea_model.specs.Instance.{changed, content_of}
 use Rattle.ea_model.specs.Instance.{with_content, without_content}
 use Rattle.ea_cset.specs.declared.keys.CarrierKey.{CarrierKey}
-use Rattle.ea_cset.specs.declared.keys.CarrierFit.{CarrierFit}
-use Rattle.ea_cset.specs.declared.keys.Found.{Found}
-use Rattle.ea_cset.specs.Carriers.{carrier_of, IsBefore, StandsIn}
-use Rattle.ea_cset.specs.Carriers.{Carriers, is_held, refitted, with_fit, number_of as set_number}
+use Rattle.ea_cset.specs.Carriers.{Carriers, refitted, with_fit, number_of as set_number}
 use Rattle.ea_model.specs.Keyed.{entered, without}
-use Rattle.std.proofs.lemmas.List.{get_or-map, length-map}
-use Rattle.ea_model.proofs.Options.{is_some-map}
-use Rattle.ea_model.proofs.Rising.{changed_here, changed_past, item_at-each, item_at-key}
-use Rattle.ea_model.proofs.Rising.{entered-map, item_at-map, without-map}
+use Rattle.ea_model.proofs.Rising.{changed_here, changed_past}
+use Rattle.ea_model.proofs.Rising.{entered-map, without-map}
 use Rattle.std.specs.List.Sorted.{IsPermutation}
 use Rattle.std.proofs.lemmas.Map.Keys.{IsDistinct-IsPermutation}
 use Rattle.std.proofs.lemmas.Map.Keys.{IsDistinct-from_apart, apart_from_distinct}
@@ -31,92 +26,7 @@ use Rattle.ea_employed.specs.Binned.{fit_in, has_bins, HavePlaces, Hold}
 use Rattle.ea_employed.specs.Listed.{all_gaps, held_of, IsListed}
 use Rattle.ea_laws.proofs.Changed.{KeepsPlace}
 use Rattle.ea_laws.proofs.Apart.{only-item}
-use Rattle.ea_laws.proofs.Contents.{absent-none}
 use Rattle.ea_employed.proofs.Counting.{sum-changed, sum-entered, sum-without, units_in}
-
--- a carrier that is listed is held
-pub held-some : (n : ℕ) (cs : List Content) → IsSome (content_of cs n)
-    → is_held n (map held_of cs) ≡ true
-held-some n cs h = subst (λ o. IsSome o) (sym (item_at-map set_number held_of n cs))
-    (is_some-map held_of (content_of cs n) ∙ h)
-
-pub held-there : (n : ℕ) (c : Content) (cs : List Content) → content_of cs n ≡ Some c
-    → is_held n (map held_of cs) ≡ true
-held-there n c cs there = held-some n cs (subst (λ o. IsSome o) (sym there) refl)
-
--- a carrier that the set found stands at the same place among the carriers
-pub found-stands : (o : Option Found) (cs now : List Content) (set : Carriers)
-    → set.held ≡ map held_of cs → cs ≡ now → IfSome o (StandsIn set.held)
-    → IfSome o (StandsIn (map held_of now))
-found-stands o cs now set held seen h =
-    subst (λ hs. IfSome o (StandsIn hs)) (held ∙ ap (map held_of) seen) h
-
-pub found-within : (cs : List Content) (f : Found) → StandsIn (map held_of cs) f
-    → f.index < length cs
-found-within cs f stands = omega (arith, stands.0, length-map cs held_of)
-
-pub found-held : (cs : List Content) (f : Found) (item : Content) → StandsIn (map held_of cs) f
-    → item ≡ get_or cs f.index item → held_of item ≡ f.carrier
-found-held cs f item stands is =
-    ap held_of is ∙ sym (get_or-map held_of cs f.index item f.carrier (found-within cs f stands))
-    ∙ stands.1
-
-pub found-there : (cs : List Content) (f : Found) (item : Content) → IsRising cs
-    → StandsIn (map held_of cs) f → item ≡ get_or cs f.index item
-    → content_of cs f.carrier.key.number ≡ Some item
-found-there cs f item rising stands is =
-    let within = found-within cs f stands in
-    let same = found-held cs f item stands is in
-    ap (content_of cs) (ap (λ (x : CarrierFit). x.key.number) (sym same) ∙ ap number_of is)
-    ∙ item_at-each number_of f.index item cs rising within ∙ ap Some (sym is)
-
--- so does the carrier with the number
-pub place-within : (i : ℕ) (cs : List Content) (hs : List CarrierFit) → hs ≡ map held_of cs
-    → i < length hs → i < length cs
-place-within i cs hs held within = omega (arith, within, ap length held, length-map cs held_of)
-
-pub place-there : (n i : ℕ) (cs : List Content) (hs : List CarrierFit) → hs ≡ map held_of cs
-    → IsRising cs → i < length hs → ((h : CarrierFit) → carrier_of hs n ≡ Some (get_or hs i h))
-    → (d : Content) → content_of cs n ≡ Some (get_or cs i d)
-place-there n i cs hs held rising within found d =
-    let in_list = place-within i cs hs held within in
-    let number : number_of (get_or cs i d) ≡ n =
-    ap set_number (sym (get_or-map held_of cs i d (held_of d) in_list)
-    ∙ ap (λ ys. get_or ys i (held_of d)) (sym held))
-    ∙ item_at-key set_number n (get_or hs i (held_of d)) hs (found (held_of d)) in
-    subst (λ k. content_of cs k ≡ Some (get_or cs i d)) number
-    (item_at-each number_of i d cs rising in_list)
-
--- the carriers stand by rising number where the set holds them so
-held-rising : (cs : List Content) (hs : List CarrierFit) → hs ≡ map held_of cs
-    → AllPairs IsBefore hs → IsRising cs
-held-rising cs hs held rising = λ i j d lt within.
-    let same : (k : ℕ) → k < length cs
-    → (get_or hs k (held_of d)).key.number ≡ (get_or cs k d).number =
-    λ k le. ap set_number (ap (λ ys. get_or ys k (held_of d)) held
-    ∙ get_or-map held_of cs k d (held_of d) le) in
-    let here : (get_or hs i (held_of d)).key.number < (get_or hs j (held_of d)).key.number =
-    (rising i j (held_of d) lt (omega (arith, within, ap length held, length-map cs held_of))).0 in
-    omega (arith, here, same i (omega arith), same j within)
-
--- what the set found by its number, if it did, is the carrier with the number
-module _ (n : ℕ) (cs now : List Content) (hs : List CarrierFit) (o : Option ℕ)
-    (held : hs ≡ map held_of cs) (seen : cs ≡ now) where
-  pub find-none : o ≡ None → is_some o ≡ is_held n hs → None ≡ content_of now n
-  find-none was same =
-      let none : has_content n cs ≡ false = sym (ap is_some (item_at-map set_number held_of n cs)
-      ∙ is_some-map held_of (content_of cs n)) ∙ ap (is_held n) (sym held) ∙ sym same
-      ∙ ap is_some was in
-      sym (absent-none n cs none) ∙ ap (λ ys. content_of ys n) seen
-
-  pub find-some : (i : ℕ) → o ≡ Some i → AllPairs IsBefore hs → IfSome o (λ k. k < length hs)
-      → ((h : CarrierFit) → carrier_of hs n ≡ option_map (λ k. get_or hs k h) o) → (d : Content)
-      → Some (get_or cs i d) ≡ content_of now n
-  find-some i was rising within found d =
-      sym (place-there n i cs hs held (held-rising cs hs held rising)
-      (subst (λ r. IfSome r (λ k. k < length hs)) was within)
-      (λ h. found h ∙ ap (option_map (λ k. get_or hs k h)) was) d)
-      ∙ ap (λ ys. content_of ys n) seen
 
 module _ (f : Content → Content) (k : KeepsPlace f) (n : ℕ) (item : Content) where
   -- the carrier with another fit is the changed carrier
@@ -153,6 +63,7 @@ module _ (f : Content → Content) (k : KeepsPlace f) (n : ℕ) (item : Content)
       → IsListed s units new after left
   IsListed-changed s units cs new fit set after bins left there rising l is fits e same kept gaps =
       record {
+        order = ap (λ (x : Carriers). x.order) e ∙ l.order;
         held =
             ap (λ (x : Carriers). x.held) e ∙ ap (refitted n fit) l.held
             ∙ ap (λ m. refitted n m (map held_of cs)) fits
@@ -181,6 +92,7 @@ pub IsListed-entered : (s : Strategy) (units : ℕ) (cs new : List Content) (x :
     → Hold left (all_gaps new) → IsListed s units new after left
 IsListed-entered s units cs new x key fit set after bins left l few is keyed fits e same kept gaps =
     record {
+      order = ap (λ (c : Carriers). c.order) e ∙ l.order;
       held =
           ap (λ (c : Carriers). c.held) e
           ∙ ap (entered set_number (record { key = key; fit = fit })) l.held
@@ -203,6 +115,7 @@ pub IsListed-left : (s : Strategy) (units : ℕ) (cs new : List Content) (n : �
     → ((n : ℕ) → HavePlaces n bins → HavePlaces n left) → Hold left (all_gaps new)
     → IsListed s units new after left
 IsListed-left s units cs new n x set after bins left there rising l is e same kept gaps = record {
+  order = ap (λ (c : Carriers). c.order) e ∙ l.order;
   held =
       ap (λ (c : Carriers). c.held) e ∙ ap (without set_number n) l.held
       ∙ without-map set_number held_of n cs ∙ sym (ap (map held_of) is);

@@ -127,6 +127,7 @@ renaming-IsListed number offset name cs new s units set bins laid w l =
     (gaps_of c) [] [] (sym (append-nil (gaps_of c))) (w.gaps ∙ sym (append-nil (gaps_of c))) in
     let parts : List BinnedGap = map (at_base c.base) (gaps_of c) ++ all.0 in
     record {
+      order = l.order;
       held =
           l.held
           ∙ sym (map-kept held_of f number c cs (only-item number c cs laid.rising w.there)

@@ -14,12 +14,12 @@ use Rattle.ea_model.specs.Keyed.{IsBelow}
 use Rattle.ea_model.specs.Strategies.{takes_first}
 use Rattle.ea_model.specs.Strategies as strategies
 use Rattle.ea_cset.specs.declared.keys.CarrierFit.{CarrierFit}
-use Rattle.ea_cset.specs.Carriers.{lower, older}
+use Rattle.ea_cset.specs.Carriers.{comes_first, lower, older}
 use Rattle.ea_laws.specs.Kept.{ContentsApart, number_of}
 use Rattle.ea_employed.specs.Laid.{AreLaid}
 use Rattle.ea_employed.specs.Listed.{held_of}
-use Rattle.ea_employed.specs.declared.strategies.Search.TheVariants.{Address, Age}
-use Rattle.ea_employed.specs.Searches.{search_of}
+use Rattle.ea_employed.specs.declared.strategies.Search.TheVariants.{First}
+use Rattle.ea_employed.specs.Searches.{order_among, search_of}
 
 -- the gap is one of the carrier, and begins in it
 pub record IsOf (x : Candidate) (c : Content) : Type 0 where
@@ -79,26 +79,15 @@ by_age : (x y : Candidate) (c d : Content) (rest : Bool) → IsOf x c → IsOf y
 by_age x y c d rest i j o = let xn = i.number in let xb = i.birth in let yn = j.number in let yb =
     j.birth in grind arith
 
-pub address-GoesBy : (s : Strategy) → search_of s ≡ Address → GoesBy s lower
-address-GoesBy Aoff e = aoff-GoesBy
-address-GoesBy AoffCbf e = aoffcbf-GoesBy
-address-GoesBy AoffCaobf e = aoffcaobf-GoesBy
-address-GoesBy Bf e = absurd cc
-address-GoesBy Aobf e = absurd cc
-address-GoesBy AgeffCaoff e = absurd cc
-address-GoesBy AgeffCbf e = absurd cc
-address-GoesBy AgeffCaobf e = absurd cc
-address-GoesBy Gf e = absurd cc
-address-GoesBy Af e = absurd cc
-
-pub age-GoesBy : (s : Strategy) → search_of s ≡ Age → GoesBy s older
-age-GoesBy AgeffCaoff e = λ x y c d i j p. by_age x y c d _ i j p.0
-age-GoesBy AgeffCbf e = λ x y c d i j p. by_age x y c d _ i j p.0
-age-GoesBy AgeffCaobf e = λ x y c d i j p. by_age x y c d _ i j p.0
-age-GoesBy Bf e = absurd cc
-age-GoesBy Aobf e = absurd cc
-age-GoesBy Aoff e = absurd cc
-age-GoesBy AoffCbf e = absurd cc
-age-GoesBy AoffCaobf e = absurd cc
-age-GoesBy Gf e = absurd cc
-age-GoesBy Af e = absurd cc
+-- so it goes by the order in which it searches the carriers
+pub first-GoesBy : (s : Strategy) → search_of s ≡ First → GoesBy s (comes_first (order_among s))
+first-GoesBy Aoff e = aoff-GoesBy
+first-GoesBy AoffCbf e = aoffcbf-GoesBy
+first-GoesBy AoffCaobf e = aoffcaobf-GoesBy
+first-GoesBy AgeffCaoff e = λ x y c d i j p. by_age x y c d _ i j p.0
+first-GoesBy AgeffCbf e = λ x y c d i j p. by_age x y c d _ i j p.0
+first-GoesBy AgeffCaobf e = λ x y c d i j p. by_age x y c d _ i j p.0
+first-GoesBy Bf e = absurd cc
+first-GoesBy Aobf e = absurd cc
+first-GoesBy Gf e = absurd cc
+first-GoesBy Af e = absurd cc

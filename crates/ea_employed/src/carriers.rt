@@ -1,6 +1,6 @@
 //! The carriers that an instance employs.
 ghost use Rattle.std.specs.Prelude.{◌≡◌, ℕ, ◌*◌, ◌+◌, ◌%◌, ◌<◌, ◌≤◌, [], All, Some, None};
-ghost use Rattle.std.specs.Prelude.{true, false, IsSome, IfSome, IfOk, length};
+ghost use Rattle.std.specs.Prelude.{true, false, is_some, IsSome, IfSome, IfOk, length};
 ghost use Rattle.std.specs.Prelude.{get_or, map, option_map, sum_by};
 ghost use Rattle.std.specs.Option.{option_and_then};
 ghost use Rattle.ea_model.specs.declared.settings.Strategy.TheVariants.{Af};
@@ -19,8 +19,8 @@ ghost use Rattle.ea_laws.specs.Kept.{ContentsApart, IsLaidOut, IsWhole};
 ghost use Rattle.ea_employed.specs.Binned.{has_bins};
 ghost use Rattle.ea_employed.specs.Laid.{AreLaid};
 ghost use Rattle.ea_employed.specs.Choices.{candidate_of, IsChoice};
-ghost use Rattle.ea_cset.specs.Carriers.{number_found, StandsIn};
-ghost use Rattle.ea_employed.specs.Listed.{candidate_in, held_of};
+ghost use Rattle.ea_cset.specs.Carriers.{number_found};
+ghost use Rattle.ea_employed.specs.Listed.{candidate_in, spot_in, StandsAmong};
 
 use crate::binned::{bins_for, note_entered, note_left, note_placed, note_released};
 use crate::choice::Choice;
@@ -28,11 +28,11 @@ use crate::employed::Employed;
 use crate::figures::{
     no_figures, with_block, with_carrier, with_size, with_whole, without_block, without_whole,
 };
-use crate::strategies::{Search, inner_of, may_miss, search_of};
+use crate::strategies::{Search, inner_of, may_miss, order_among, search_of};
 use crate::walks::{lowest_empty, multi_count};
 use ea_cset::{CarrierSet, Found};
 use ea_goodfit::{BinnedGap, Bins};
-use ea_model::keyed::{enter_within, take_out};
+use ea_model::keyed::enter_within;
 use ea_model::{
     Figures, Gap, HEADER_UNITS, MAX_SCHEDULERS, NUMBERS, OutOfMemory, PAGE_UNITS, Strategy,
 };
@@ -82,7 +82,7 @@ impl Carriers {
             (λ c. c ≡ record { strategy = strategy; units = units; contents = [] }) }
     {
         let room = NUMBERS * MAX_SCHEDULERS;
-        let set = CarrierSet::new(alloc, room)?;
+        let set = CarrierSet::new(alloc, order_among(strategy), room)?;
         let bins = bins_for(alloc, strategy, units)?;
         Ok(Carriers {
             strategy,
@@ -105,8 +105,26 @@ impl Carriers {
     pub fn carrier(&self, number: u32) -> Option<&Employed>
         ensures { option_map (λ x. x.now) result ≡ content_of self.now.contents number }
     {
-        let index = self.set.find(number)?;
+        let index = self.set.find(number)?.index;
         Some(&self.list[index])
+    }
+
+    /// Where the carrier with the number stands, if there is one.
+    pub fn find(&self, number: u32) -> Option<Found>
+        ensures there { is_some result ≡ has_content number self.now.contents }
+        ensures number { IfSome result (λ f. f.carrier.key.number ≡ number) }
+        ensures stands { IfSome result (StandsAmong self.now.contents) }
+    {
+        self.set.find(number)
+    }
+
+    /// The carrier that was found.
+    pub fn at(&self, found: Found) -> &Employed
+        requires laid { AreLaid self.now.contents }
+        requires found { StandsAmong self.now.contents found }
+        ensures { content_of self.now.contents found.carrier.key.number ≡ Some result.now }
+    {
+        &self.list[found.index]
     }
 
     /// Blocks and carriers, and their units.
@@ -122,17 +140,6 @@ impl Carriers {
         ensures within { result ≤ length self.now.contents }
     {
         multi_count(&self.list)
-    }
-
-    /// The place of the carrier with the number among the carriers, by rising number.
-    fn place_of(&self, number: u32) -> usize
-        requires laid { AreLaid self.now.contents }
-        requires there { IsSome (content_of self.now.contents number) }
-        ensures within { result < length self.now.contents }
-        ensures item { (d : Content) → content_of self.now.contents number
-            ≡ Some (get_or self.now.contents result d) }
-    {
-        self.set.place_of(number)
     }
 
     /// The gap that the strategy chooses among those of all carriers. Good fit inspects `depth`
@@ -157,8 +164,7 @@ impl Carriers {
         ensures choice { IfSome result (IsChoice need self.now.contents) }
     {
         match search_of(self.strategy) {
-            Search::Address => self.choice_in(self.set.first_by_address(need), need),
-            Search::Age => self.choice_in(self.set.first_by_age(need), need),
+            Search::First => self.choice_in(self.set.first(need), need),
             Search::Bins => self.binned(need, depth),
             Search::Lowest => self.lowest(need),
         }
@@ -168,7 +174,7 @@ impl Carriers {
     fn choice_in(&self, found: Option<Found>, need: u32) -> Option<Choice>
         requires laid { AreLaid self.now.contents }
         requires some { 1 ≤ need }
-        requires stands { IfSome found (StandsIn (map held_of self.now.contents)) }
+        requires stands { IfSome found (StandsAmong self.now.contents) }
         ensures chosen { candidate_of result
             ≡ option_and_then
             (candidate_in (inner_of self.now.strategy) need self.now.contents)
@@ -202,7 +208,7 @@ impl Carriers {
             ≡ choice_among Af depth need self.now.contents }
         ensures choice { IfSome result (IsChoice need self.now.contents) }
     {
-        let found = self.choice_in(self.set.first_by_address(1), 1)?;
+        let found = self.choice_in(self.set.first(1), 1)?;
         if found.candidate.size < need {
             return None;
         }
@@ -246,29 +252,30 @@ impl Carriers {
             size: candidate.size,
         };
         let placed = self.list[index].carrier.place(gap, need, name);
-        self.set.update(candidate.number, placed.largest);
+        let found = self.set.at(index);
+        self.set.update(found, placed.largest);
         note_placed(&mut self.bins, candidate.address, gap.size, placed.size);
         self.figures = with_block(self.figures, placed.size);
         placed.size
     }
 
-    /// Releases the block at the offset in the carrier with the number, and says whether that is to
+    /// Releases the block at the offset in the carrier that was found, and says whether that is to
     /// be deallocated. It takes no memory.
-    pub fn release(&mut self, number: u32, offset: u32) -> bool
+    pub fn release(&mut self, found: Found, offset: u32) -> bool
         requires laid { AreLaid self.old.contents }
-        requires block { IsSome (block_in self.old.contents
-            (record { carrier = number; offset = offset })) }
-        ensures vacant { result ≡ has_vacant number self.new.contents }
+        requires found { StandsAmong self.old.contents found }
+        requires block { IsSome (block_in self.old.contents (spot_in found offset)) }
+        ensures vacant { result ≡ has_vacant found.carrier.key.number self.new.contents }
         ensures released { self.new ≡ record self.old {
           contents =
-              changed (λ c. released c offset) number self.old.contents;
+              changed (λ c. released c offset) found.carrier.key.number self.old.contents;
         } }
     {
-        let index = self.place_of(number);
+        let index = found.index;
         let address = self.list[index].address(offset);
         let freed = self.list[index].carrier.release(offset);
         let vacant = self.list[index].is_vacant();
-        self.set.update(number, freed.largest);
+        self.set.update(found, freed.largest);
         note_released(
             &mut self.bins,
             address,
@@ -280,72 +287,71 @@ impl Carriers {
         vacant
     }
 
-    /// The block at the offset in the carrier with the number has this name from now on. Answers
+    /// The block at the offset in the carrier that was found has this name from now on. Answers
     /// the block's units. It takes no memory.
-    pub fn rename(&mut self, number: u32, offset: u32, name: u32) -> u32
+    pub fn rename(&mut self, found: Found, offset: u32, name: u32) -> u32
         requires laid { AreLaid self.old.contents }
-        requires block { IsSome (block_in self.old.contents
-            (record { carrier = number; offset = offset })) }
-        ensures size { result ≡ size_of (block_in self.old.contents
-            (record { carrier = number; offset = offset })) }
+        requires found { StandsAmong self.old.contents found }
+        requires block { IsSome (block_in self.old.contents (spot_in found offset)) }
+        ensures size { result ≡ size_of (block_in self.old.contents (spot_in found offset)) }
         ensures renamed { self.new ≡ record self.old {
           contents = changed (λ c. resized c offset (size_of (block_at c.blocks offset)) name)
-              number self.old.contents;
+              found.carrier.key.number self.old.contents;
         } }
     {
-        let index = self.place_of(number);
+        let index = found.index;
         self.list[index].carrier.rename(offset, name)
     }
 
-    /// The block at the offset in the carrier with the number has `need` units and this name from
+    /// The block at the offset in the carrier that was found has `need` units and this name from
     /// now on. It gives back at least 6 units. It takes no memory.
-    pub fn shrink(&mut self, number: u32, offset: u32, need: u32, name: u32)
+    pub fn shrink(&mut self, found: Found, offset: u32, need: u32, name: u32)
         requires laid { AreLaid self.old.contents }
-        requires block { IsSome (block_in self.old.contents
-            (record { carrier = number; offset = offset })) }
-        requires fewer { need + MIN_BLOCK ≤ size_of (block_in self.old.contents
-            (record { carrier = number; offset = offset })) }
+        requires found { StandsAmong self.old.contents found }
+        requires block { IsSome (block_in self.old.contents (spot_in found offset)) }
+        requires fewer { need + MIN_BLOCK
+            ≤ size_of (block_in self.old.contents (spot_in found offset)) }
         requires even { need % 2 ≡ 0 }
         requires least { MIN_BLOCK ≤ need }
         ensures { self.new ≡ record self.old {
-          contents = changed (λ c. resized c offset need name) number self.old.contents;
+          contents = changed (λ c. resized c offset need name) found.carrier.key.number
+              self.old.contents;
         } }
     {
-        let index = self.place_of(number);
+        let index = found.index;
         let address = self.list[index].address(offset);
         let block = self.list[index].carrier.shrink(offset, need, name);
-        self.set.update(number, block.largest);
+        self.set.update(found, block.largest);
         let rest = block.was - block.size;
         note_released(&mut self.bins, address + block.size, 0, rest, block.after);
         self.figures = with_size(self.figures, block.was, block.size);
     }
 
-    /// The block at the offset in the carrier with the number takes of the gap directly after it
+    /// The block at the offset in the carrier that was found takes of the gap directly after it
     /// what it needs to have `need` units, or the whole gap where fewer than 6 units would be left
     /// of it, and has this name from now on. Answers its units. It takes no memory.
-    pub fn grow(&mut self, number: u32, offset: u32, need: u32, name: u32) -> u32
+    pub fn grow(&mut self, found: Found, offset: u32, need: u32, name: u32) -> u32
         requires laid { AreLaid self.old.contents }
+        requires found { StandsAmong self.old.contents found }
         requires few { length self.old.contents ≤ NUMBERS * MAX_SCHEDULERS }
-        requires block { IsSome (block_in self.old.contents
-            (record { carrier = number; offset = offset })) }
-        requires more { size_of (block_in self.old.contents
-            (record { carrier = number; offset = offset })) < need }
-        requires fits { IfSome (content_of self.old.contents number)
+        requires block { IsSome (block_in self.old.contents (spot_in found offset)) }
+        requires more { size_of (block_in self.old.contents (spot_in found offset)) < need }
+        requires fits { IfSome (content_of self.old.contents found.carrier.key.number)
             (λ c. need ≤ room_at c offset) }
         requires even { need % 2 ≡ 0 }
-        ensures size { IfSome (content_of self.old.contents number)
+        ensures size { IfSome (content_of self.old.contents found.carrier.key.number)
             (λ c. result ≡ taken_of (room_at c offset) need) }
         ensures grown { self.new ≡ record self.old {
           contents = changed (λ c. resized c offset (taken_of (room_at c offset) need) name)
-              number self.old.contents;
+              found.carrier.key.number self.old.contents;
         } }
     {
-        let index = self.place_of(number);
+        let index = found.index;
         let address = self.list[index].address(offset);
         let Some(block) = self.list[index].carrier.grow(offset, need, name) else {
             unreachable!();
         };
-        self.set.update(number, block.largest);
+        self.set.update(found, block.largest);
         let more = block.size - block.was;
         note_placed(&mut self.bins, address + block.was, block.after, more);
         self.figures = with_size(self.figures, block.was, block.size);
@@ -404,20 +410,21 @@ impl Carriers {
         self.figures = with_whole(self.figures, blocks, size, units);
     }
 
-    /// Takes out a carrier. Where there are bins it has no blocks. It takes no memory.
-    pub fn leave(&mut self, number: u32) -> Employed
+    /// Takes out the carrier that was found. Where there are bins it has no blocks. It takes no
+    /// memory.
+    pub fn leave(&mut self, found: Found) -> Employed
         requires laid { AreLaid self.old.contents }
-        requires there { IsSome (content_of self.old.contents number) }
+        requires found { StandsAmong self.old.contents found }
         requires bins { has_bins self.old.strategy ≡ true
-            → IfSome (content_of self.old.contents number) (λ c. c.blocks ≡ []) }
-        ensures carrier { content_of self.old.contents number ≡ Some result }
+            → IfSome (content_of self.old.contents found.carrier.key.number) (λ c. c.blocks ≡ []) }
+        ensures carrier { content_of self.old.contents found.carrier.key.number ≡ Some result }
         ensures rest { self.new ≡ record self.old {
           contents =
-              without_content number self.old.contents;
+              without_content found.carrier.key.number self.old.contents;
         } }
     {
-        self.set.remove(number);
-        let employed = take_out(number, &mut self.list);
+        self.set.remove(found);
+        let employed = self.list.remove(found.index);
         let address = employed.address(HEADER_UNITS);
         let size = employed.carrier.largest();
         note_left(&mut self.bins, BinnedGap { address, size });

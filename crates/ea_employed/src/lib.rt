@@ -14,5 +14,6 @@ mod walks;
 
 pub use carriers::Carriers;
 pub use choice::Choice;
+pub use ea_cset::Found;
 pub use employed::{Employed, Extent};
 pub use singles::Singles;

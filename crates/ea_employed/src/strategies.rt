@@ -2,18 +2,17 @@
 ghost use Rattle.std.specs.Prelude.{◌≡◌, false};
 ghost use Rattle.ea_model.specs.Strategies as strategies;
 ghost use Rattle.ea_employed.specs.Binned.{fit_of, has_bins};
-ghost use Rattle.ea_employed.specs.Searches.{search_of};
+ghost use Rattle.ea_employed.specs.Searches.{order_among, search_of};
 
+use ea_cset::Order;
 use ea_goodfit::Fit;
 use ea_model::{Inner, Strategy};
 
 /// How a strategy searches the carriers.
 #[derive(Debug, Clone, Copy, PartialEq, Eq)]
 pub enum Search {
-    /// It takes the carrier of the lowest address that has a gap of the size.
-    Address,
-    /// It takes the oldest carrier that has a gap of the size.
-    Age,
+    /// It takes the first carrier in its order that has a gap of the size.
+    First,
     /// It takes a gap of the bins, which hold those of all carriers.
     Bins,
     /// It inspects the gap at the lowest address, and no other.
@@ -25,10 +24,24 @@ pub fn search_of(strategy: Strategy) -> Search
     ensures { result ≡ search_of strategy }
 {
     match strategy {
-        Strategy::Aoff | Strategy::AoffCbf | Strategy::AoffCaobf => Search::Address,
-        Strategy::AgeffCaoff | Strategy::AgeffCbf | Strategy::AgeffCaobf => Search::Age,
+        Strategy::Aoff
+        | Strategy::AoffCbf
+        | Strategy::AoffCaobf
+        | Strategy::AgeffCaoff
+        | Strategy::AgeffCbf
+        | Strategy::AgeffCaobf => Search::First,
         Strategy::Bf | Strategy::Aobf | Strategy::Gf => Search::Bins,
         Strategy::Af => Search::Lowest,
+    }
+}
+
+/// The order among carriers in which a strategy searches them.
+pub fn order_among(strategy: Strategy) -> Order
+    ensures { result ≡ order_among strategy }
+{
+    match strategy {
+        Strategy::AgeffCaoff | Strategy::AgeffCbf | Strategy::AgeffCaobf => Order::Age,
+        _ => Order::Address,
     }
 }
 

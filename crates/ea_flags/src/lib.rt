@@ -7,8 +7,6 @@ mod fault;
 mod flag;
 mod reading;
 mod setting;
-#[cfg(test)]
-mod tests;
 mod value;
 
 pub use config::{DEFAULT_CONFIG, DEFAULT_SETTINGS};

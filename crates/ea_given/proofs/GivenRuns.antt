@@ -25,11 +25,11 @@ use Rattle.ea_sound.proofs.TurnLists.{run-append}
 use Rattle.ea_mem_shared.specs.Places.{place_at}
 use Rattle.ea_sched.specs.declared.state.Scheduler.{Scheduler}
 use Rattle.ea_sched.specs.Acting.{actor_of, is_ended}
+use Rattle.ea_sched.specs.Looks.{IsQuiet}
 use Rattle.ea_outcome.specs.Resting.{StandIn}
 use Rattle.ea_given.specs.declared.run.GivenRun.{GivenRun}
 use Rattle.ea_given.specs.Layouts.{is_scheduled}
-use Rattle.ea_given.specs.Running.{AllRanOut, AllStandAt, AllTook, IsQuiet, SharesAt}
-use Rattle.ea_given.specs.Running.{Took}
+use Rattle.ea_given.specs.Running.{AllRanOut, AllStandAt, AllTook, SharesAt, Took}
 use Rattle.ea_given.specs.Runs.{HasCompleted, HasScheduler, HasTaken, IsRun, StandsAfter}
 use Rattle.ea_given.specs.Runs.{StaysInOperation}
 use Rattle.ea_given.proofs.Ends.{one-taken, other-left, stand-in}

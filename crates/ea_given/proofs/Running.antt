@@ -1,8 +1,9 @@
 -- Schedulers take their turns on plain memory.
 use Rattle.std.proofs.Common.{◌≡◌, ◌≢◌, ◌⊎◌, ℕ, zero, suc, ◌+◌, ◌-◌, ◌<◌, ◌≤◌, length, true, false}
 use Rattle.std.proofs.Common.{List, [], ◌∷◌, inl, inr, refl, sym, ap, subst, ◌∙◌, arith}
-use Rattle.std.specs.Prelude.{Bool, Option, None, Some, not, replicate, take, ◌&&◌, ◌||◌}
+use Rattle.std.specs.Prelude.{Bool, Option, None, Some, max, replicate, take, ◌||◌}
 use Rattle.std.proofs.lemmas.Bool.{cases_Bool}
+use Rattle.std.proofs.lemmas.Int.{clamps}
 use Rattle.std.proofs.lemmas.List.{replicate-append-replicate}
 use Rattle.ea_model.specs.declared.settings.Config.{Config}
 use Rattle.ea_model.specs.declared.trace.Trace.{Trace}
@@ -26,15 +27,13 @@ use Rattle.ea_sound.proofs.Asked.{reached-rule}
 use Rattle.ea_machine.specs.Stops.{less, up_to}
 use Rattle.ea_sound.proofs.Completing.{ending-none, ending-one, reached-run, reached-step}
 use Rattle.ea_sound.proofs.Completing.{rule-less}
-use Rattle.ea_sound.proofs.Stopping.{less-more, less-none, less-over, up_to-more, up_to-nothing}
-use Rattle.ea_sound.proofs.Stopping.{up_to-one, up_to-over, up_to-some, up_to-step}
+use Rattle.ea_sound.proofs.Stopping.{less-more, less-none, less-over, up_to-all, up_to-more}
+use Rattle.ea_sound.proofs.Stopping.{up_to-nothing, up_to-one, up_to-over, up_to-some, up_to-step}
 use Rattle.ea_sound.proofs.TurnLists.{ended-or, run-append, step-ended, step-mine, step-shared}
 use Rattle.ea_mem_shared.specs.Memory.{Sharing, shared_of}
 use Rattle.ea_sched.specs.declared.state.Scheduler.{Scheduler}
-use Rattle.ea_sched.specs.declared.step.Progress.{Progress}
-use Rattle.ea_sched.specs.declared.step.Progress.TheVariants.{Went, Stopped}
-use Rattle.ea_sched.specs.declared.step.Progress.TheVariants as progress
-use Rattle.ea_sched.specs.Acting.{actor_of, is_ended, is_over, is_stopped, rests, setup_for}
+use Rattle.ea_sched.specs.Acting.{actor_of, is_ended, is_over, rests, setup_for}
+use Rattle.ea_sched.specs.Looks.{AreLeft}
 use Rattle.ea_given.specs.Running.{LeadsTo, SharesAt, Stands, StandsAt, Took, alone_in}
 use Rattle.ea_given.specs.Running.{work_left}
 use Rattle.ea_sched.specs.Steps.{Stepped}
@@ -91,19 +90,6 @@ rests-is s is = elim (either (is_ended s.stage) (is_over s.left) is) [
 not-both : {A : Type 0} (b : Bool) → b ≡ true → b ≡ false → A
 not-both b is other = absurd (let never : true ≡ false = sym is ∙ other in cc)
 
--- it takes no step any more, if it has ended or is stopped
-pub rests-ended : (s : Scheduler) → is_ended s.stage ≡ true → rests s ≡ true
-rests-ended s is = by (is_ended s.stage) (is_over s.left) is where
-  by : (a b : Bool) → a ≡ true → (a || b) ≡ true
-  by true b is = refl
-  by false b is = absurd cc
-
-pub rests-stopped : (s : Scheduler) → is_stopped s ≡ true → rests s ≡ true
-rests-stopped s is = by (is_ended s.stage) (is_over s.left) is where
-  by : (a b : Bool) → (not a && b) ≡ true → (a || b) ≡ true
-  by true b is = absurd cc
-  by false b is = is
-
 -- a step of a scheduler is the same from each state in which it and what is shared are the same
 module _ (e : Setup) (me : ℕ) (v w : State) (same : v.actors me ≡ w.actors me)
     (shares : v.shared ≡ w.shared) where
@@ -130,6 +116,21 @@ module _ (e : Setup) (me : ℕ) (v w : State) (same : v.actors me ≡ w.actors m
               ∙ ap (effect me (wants (w.actors me))) shares ∙ sym (step-shared e w me also),
         )
   ]
+
+-- and so are that many steps of it
+steps-alike : (e : Setup) (me k : ℕ) (v w : State) → v.actors me ≡ w.actors me
+    → v.shared ≡ w.shared
+    → ((run_on e v (replicate k me)).actors me ≡ (run_on e w (replicate k me)).actors me)
+    × ((run_on e v (replicate k me)).shared ≡ (run_on e w (replicate k me)).shared)
+steps-alike e me zero v w same shares = (same, shares)
+steps-alike e me (suc k) v w same shares =
+    let one = step-alike e me v w same shares in
+    steps-alike e me k (step e v me) (step e w me) one.0 one.1
+
+-- all turns are taken, if so many are left
+all-within : (o : Option ℕ) (k me : ℕ) → AreLeft k o → up_to o (replicate k me) ≡ replicate k me
+all-within None k me left = refl
+all-within (Some n) k me left = up_to-all n k me left
 
 -- turns of a scheduler that has ended change nothing
 ended-stays : (e : Setup) (me : ℕ) (w : State) (n : ℕ) → (w.actors me).stage ≡ Ended
@@ -221,31 +222,36 @@ module _ (c : Config) (t : Trace) (me : ℕ) (steps : Option ℕ) (s : Scheduler
     pub stands-moves : m.migrates ≡ migration (setup_for s)
     stands-moves = as-run (λ d u k. m.migrates ≡ migration (setup_of d u)) shares.moves
 
-    -- and stands in the next state after it
-    stepped-stands : (u : Scheduler) (n : Sharing) → u.config ≡ s.config
+    abbrev After : ℕ → Scheduler → Sharing → Type 0
+    After k u n = SharesAt c t n (run_on (setup_of c t) w (up_to steps (replicate k me)))
+        × StandsAt c t me (less steps k) u (run_on (setup_of c t) w (up_to steps (replicate k me)))
+
+    -- it stands after its steps
+    stepped-stands : (k : ℕ) (u : Scheduler) (n : Sharing) → u.config ≡ s.config
         → u.trace ≡ s.trace → u.number ≡ s.number
         → n.schedulers ≡ m.schedulers → n.greatest ≡ m.greatest → n.migrates ≡ m.migrates
-        → u.failed ≡ false → is_ended s.stage ≡ false → u.left ≡ less s.left 1
-        → Stepped s.config s.trace.now s.number (actor_of s) (actor_of u) (Some (shared_of m))
-        (Some (shared_of n)) None None
-        → (let v = step (setup_of c t) w me in
-        SharesAt c t n v × StandsAt c t me (less steps 1) u v)
-    stepped-stands u n config trace number made names moves going goes left stepped =
+        → u.failed ≡ false → is_ended s.stage ≡ false → AreLeft k s.left → u.left ≡ less s.left k
+        → Stepped s.config s.trace.now s.number k (actor_of s) (actor_of u) (Some (shared_of m))
+        (Some (shared_of n)) None None → After k u n
+    stepped-stands k u n config trace number made names moves going goes within left stepped =
         let e = setup_of c t in
-        let v = step e w me in
-        let took = of-run (λ d x k. Stepped d x k (actor_of s) (actor_of u) (Some (shared_of m))
+        let own = replicate k me in
+        let v = run_on e w own in
+        let took = of-run (λ d x i. Stepped d x i k (actor_of s) (actor_of u) (Some (shared_of m))
         (Some (shared_of n)) None None) stepped in
         let before = run e took.turns in
-        let alike = step-alike e me before w (took.actor ∙ sym at.actor)
+        let alike = steps-alike e me k before w (took.actor ∙ sym at.actor)
         (sym took.shares.0 ∙ shares.shares) in
-        let became : shared_of n ≡ (step e before me).shared = cc (took.shares.1) in (
+        let became : shared_of n ≡ (run_on e before own).shared = cc (took.shares.1) in
+        let all = ap (run_on e w) (all-within steps k me (subst (AreLeft k) (at.left goes) within)) in
+        subst (λ z. SharesAt c t n z × StandsAt c t me (less steps k) u z) (sym all) (
           record {
             config = shares.config;
             trace = shares.trace;
             made = made ∙ shares.made;
             names = names ∙ shares.names;
             moves = moves ∙ shares.moves;
-            reached = reached-step e w me shares.reached;
+            reached = reached-run e w own shares.reached;
             shares = became ∙ alike.1;
           },
           record {
@@ -254,58 +260,35 @@ module _ (c : Config) (t : Trace) (me : ℕ) (steps : Option ℕ) (s : Scheduler
             number = number ∙ at.number;
             going = going;
             actor = sym alike.0 ∙ sym took.is;
-            left = λ _. left ∙ ap (λ o. less o 1) (at.left goes);
+            left = λ _. left ∙ ap (λ o. less o k) (at.left goes);
           },
         )
 
-    -- a turn of it, if it went, and if it had ended or was stopped
-    pub turn-went : (u : Scheduler) (n : Sharing) → u.config ≡ s.config
+    rested : (u : Scheduler) (n : Sharing) → rests s ≡ true → (u ≡ s) × (n ≡ m) → After 1 u n
+    rested u n is same = subst (λ x. After 1 x n) (sym same.0) (subst (After 1 s) (sym same.1)
+        (subst (λ v. SharesAt c t m v × StandsAt c t me (less steps 1) s v)
+        (sym (rests-stays 1 is)) (shares, rests-stands 1 is)))
+
+    -- its turns, by how many steps it took; where it takes none, a turn is nothing
+    pub turns-taken : (k : ℕ) (u : Scheduler) (n : Sharing) → u.config ≡ s.config
         → u.trace ≡ s.trace → u.number ≡ s.number
         → n.schedulers ≡ m.schedulers → n.greatest ≡ m.greatest → n.migrates ≡ m.migrates
-        → u.failed ≡ false → rests s ≡ false → u.left ≡ less s.left 1
-        → Stepped s.config s.trace.now s.number (actor_of s) (actor_of u) (Some (shared_of m))
-        (Some (shared_of n)) None None
-        → (let v = run_on (setup_of c t) w (up_to steps (replicate 1 me)) in
-        SharesAt c t n v × StandsAt c t me (less steps 1) u v)
-    turn-went u n config trace number made names moves going goes left stepped =
-        let some = goes-is s goes in
-        let one = ap (run_on (setup_of c t) w)
-        (up_to-step steps me (λ over. some.1 (at.left some.0 ∙ over))) in
-        subst (λ v. SharesAt c t n v × StandsAt c t me (less steps 1) u v) (sym one)
-        (stepped-stands u n config trace number made names moves going some.0 left stepped)
-
-    pub turn-rests : rests s ≡ true
-        → (let v = run_on (setup_of c t) w (up_to steps (replicate 1 me)) in
-        SharesAt c t m v × StandsAt c t me (less steps 1) s v)
-    turn-rests is = subst (λ v. SharesAt c t m v × StandsAt c t me (less steps 1) s v)
-        (sym (rests-stays 1 is)) (shares, rests-stands 1 is)
-
-    abbrev After : Scheduler → Sharing → Type 0
-    After u n = SharesAt c t n (run_on (setup_of c t) w (up_to steps (replicate 1 me)))
-        × StandsAt c t me (less steps 1) u (run_on (setup_of c t) w (up_to steps (replicate 1 me)))
-
-    rested : (u : Scheduler) (n : Sharing) → rests s ≡ true → (u ≡ s) × (n ≡ m) → After u n
-    rested u n is same = subst (λ x. After x n) (sym same.0)
-        (subst (After s) (sym same.1) (turn-rests is))
-
-    -- a turn of it, by what came of it
-    pub turn-taken : (p : Progress) (u : Scheduler) (n : Sharing) → u.config ≡ s.config
-        → u.trace ≡ s.trace → u.number ≡ s.number
-        → n.schedulers ≡ m.schedulers → n.greatest ≡ m.greatest → n.migrates ≡ m.migrates
-        → u.failed ≡ false → (p ≡ Went → rests s ≡ false) → (p ≡ Went → u.left ≡ less s.left 1)
-        → (p ≡ progress.Ended → is_ended s.stage ≡ true) → (p ≡ Stopped → is_stopped s ≡ true)
-        → (p ≢ Went → (u ≡ s) × (n ≡ m))
-        → (p ≡ Went → Stepped s.config s.trace.now s.number (actor_of s) (actor_of u)
+        → u.failed ≡ false → (1 ≤ k → rests s ≡ false)
+        → (1 ≤ k → AreLeft k s.left × (u.left ≡ less s.left k))
+        → (1 ≤ k → Stepped s.config s.trace.now s.number k (actor_of s) (actor_of u)
         (Some (shared_of m)) (Some (shared_of n)) None None)
-        → After u n
-    turn-taken Went u n config trace number made names moves going goes left ended stopped rest took
-        =
-        turn-went u n config trace number made names moves going (goes refl) (left refl) (took refl)
-    turn-taken progress.Ended u n config trace number made names moves going goes left ended stopped
-        rest
-        took = rested u n (rests-ended s (ended refl)) (rest (λ q. absurd cc))
-    turn-taken Stopped u n config trace number made names moves going goes left ended stopped rest
-        took = rested u n (rests-stopped s (stopped refl)) (rest (λ q. absurd cc))
+        → (k ≡ 0 → (rests s ≡ true) × (u ≡ s) × (n ≡ m))
+        → (j : ℕ) → j ≡ max k 1 → After j u n
+    turns-taken zero u n config trace number made names moves going goes left took rest j is =
+        let none = rest refl in
+        let one : 1 ≡ j = omega (arith, clamps, is) in
+        subst (λ i. After i u n) one (rested u n none.0 (none.1, none.2))
+    turns-taken (suc k) u n config trace number made names moves going goes left took rest j is =
+        let some : 1 ≤ suc k = omega arith in
+        let many : suc k ≡ j = omega (arith, clamps, is) in
+        subst (λ i. After i u n) many
+        (stepped-stands (suc k) u n config trace number made names moves going
+        (goes-is s (goes some)).0 (left some).0 (left some).1 (took some))
 
     -- it has the work that is left in the state
     pub work-is : work (setup_of c t) w me ≡ work_left s m

@@ -68,16 +68,6 @@ Took count = TookOf (λ e w steps me. up_to steps (replicate count me)) (λ step
 abbrev pub TookAll : Scheduler → Sharing → Scheduler → Sharing → Type 0
 TookAll = TookOf finishing (λ _. Some 0)
 
--- no operation of it was done by its turns, and it hasn't ended
-pub record IsQuiet (s stepped : Scheduler) : Type 0 where
-  pub log : stepped.log.items ≡ s.log.items
-  pub going : is_ended stepped.stage ≡ false
-
--- that many steps at least are left until a stop
-abbrev pub HasLeft : ℕ → Option ℕ → Type 0
-HasLeft count None = Unit {0}
-HasLeft count (Some left) = count ≤ left
-
 -- the same of all schedulers of a run
 abbrev pub AllStand : List Scheduler → Sharing → Type 0
 AllStand schedulers shared = (c : Config) × (t : Trace) × (steps : (ℕ → Option ℕ)) × (state : State)

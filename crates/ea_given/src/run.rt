@@ -21,7 +21,7 @@ ghost use Rattle.ea_given.specs.Runs.{FitsSuperCarrier, HasCompleted, HasSchedul
 ghost use Rattle.ea_given.specs.Runs.{StandsAfter, StaysInOperation, Tells, done_after, ended_after};
 ghost use Rattle.ea_given.specs.Runs.{holds_after, spot_after};
 
-use crate::turns::{run_out, take_some, take_turn, take_turns};
+use crate::turns::{run_out, take_some, take_turns};
 use ea_instance::Layout;
 use ea_mbc::Mbc;
 use ea_mem_shared::MemShared;
@@ -140,7 +140,8 @@ impl<'t> GivenRun<'t> {
         ensures { OnOk result (HasTaken (me ∷ []) self.old self.new) }
     {
         let index = me as usize - 1;
-        take_turn(&mut self.schedulers[index], alloc, &mut self.shared)
+        take_some(&mut self.schedulers[index], alloc, &mut self.shared, 1)?;
+        Ok(())
     }
 
     /// Takes turns of a scheduler, at least one and not more than `most`: looks of a search in a

@@ -1,7 +1,7 @@
-//! Turns of one scheduler on plain memory: single ones, looks of a search in a row, and all that
-//! are left.
+//! Turns of one scheduler on plain memory: some, that many, and all that are left.
 ghost use Rattle.std.specs.Prelude.{◌≡◌, ◌<◌, ◌≤◌, IfOk, OnOk};
-ghost use Rattle.ea_given.specs.Running.{HasLeft, IsQuiet, Stands, Took, TookAll};
+ghost use Rattle.ea_sched.specs.Looks.{IsQuiet};
+ghost use Rattle.ea_given.specs.Running.{Stands, Took, TookAll};
 
 use ea_mbc::Mbc;
 use ea_mem_shared::MemShared;
@@ -9,40 +9,8 @@ use ea_model::OutOfMemory;
 use ea_sched::Scheduler;
 use std::alloc::Global;
 
-/// Takes one turn of the scheduler: a step, if it takes any more.
-pub(crate) fn take_turn(
-    scheduler: &mut Scheduler<'_>,
-    alloc: Global,
-    shared: &mut MemShared<Mbc>,
-) -> Result<(), OutOfMemory>
-    requires { Stands scheduler.old shared.old }
-    ensures { OnOk result (Took 1 scheduler.old shared.old scheduler.new shared.new) }
-{
-    scheduler.step(alloc, shared)?;
-    Ok(())
-}
-
-/// Takes the next looks of the scheduler's search in a row, up to one at an owner word that counts
-/// or at number 1, but not more than `most` of them. Answers how many it took.
-fn pass_looks(scheduler: &mut Scheduler<'_>, shared: &MemShared<Mbc>, most: u32) -> u32
-    requires stands { Stands scheduler.old shared.now }
-    requires within { HasLeft most scheduler.old.left }
-    ensures few { result ≤ most }
-    ensures took { Took result scheduler.old shared.now scheduler.new shared.now }
-    ensures quiet { 1 ≤ result → IsQuiet scheduler.old scheduler.new }
-{
-    let Some(at) = scheduler.next_look() else {
-        return 0;
-    };
-    let fewer = most.min(scheduler.looks_left() - 1);
-    let last = shared.last_counted(at);
-    let next = last.max(1).max(at.saturating_sub(fewer));
-    scheduler.pass_over(next);
-    at - next
-}
-
 /// Takes turns of the scheduler, at least one and not more than `most`: looks of a search in a row,
-/// up to its stop, or one step. Answers how many it took.
+/// up to its stop, or one step, if it takes any more. Answers how many it took.
 pub(crate) fn take_some(
     scheduler: &mut Scheduler<'_>,
     alloc: Global,
@@ -56,13 +24,8 @@ pub(crate) fn take_some(
         shared.new) }
     ensures quiet { IfOk result (λ count. 1 < count → IsQuiet scheduler.old scheduler.new) }
 {
-    let within = scheduler.within(most);
-    let passed = pass_looks(scheduler, shared, within);
-    if passed > 0 {
-        return Ok(passed);
-    }
-    take_turn(scheduler, alloc, shared)?;
-    Ok(1)
+    let taken = scheduler.step_upto(alloc, shared, most)?;
+    Ok(taken.max(1))
 }
 
 /// Takes that many turns of the scheduler. Those after its end or its stop change nothing, and are

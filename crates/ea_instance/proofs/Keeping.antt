@@ -49,6 +49,7 @@ use Rattle.ea_laws.proofs.Changed.{KeepsPlace, released-keeps}
 use Rattle.ea_laws.proofs.Contents.{absent-among}
 use Rattle.ea_model.proofs.Merged.{merged-apart, merged-each, merged-second, merged-without}
 use Rattle.ea_model.proofs.Merged.{sum-merged}
+use Rattle.ea_model.proofs.Options.{some_value}
 use Rattle.ea_model.proofs.Rising.{changed_none, item_at-All, item_at-each, item_at-gone}
 use Rattle.ea_model.proofs.Rising.{item_at-key, length-entered, none-other, without_none}
 use Rattle.std.specs.Option.{option_and_then}
@@ -154,6 +155,16 @@ module _ (s : Settings) (n : ℕ) (own : OwnList) (ks : CarrierList) (ss : List 
     seen-found = sym (ap (λ i. content_of (employed i) number) seen)
         ∙ by_list number (content_of ks.contents number) refl
 
+    -- by whether it is among the multiblock ones
+    pub multi-there : has_content number now.contents ≡ true
+        → (c : Content) × (content_of ks.contents number ≡ Some c)
+    multi-there has = some_value (content_of ks.contents number)
+        (ap (λ i. has_content number i.contents) seen ∙ has)
+
+    pub multi-none : has_content number now.contents ≡ false → content_of ks.contents number ≡ None
+    multi-none has = is-none (content_of ks.contents number)
+        (ap (λ i. has_content number i.contents) seen ∙ has)
+
     pub found-multi : (c : Content) → content_of ks.contents number ≡ Some c
         → content_of (employed now) number ≡ Some c
     found-multi c there = seen-found ∙ ap (λ o. either o (content_of ss number)) there
@@ -199,39 +210,41 @@ module _ (s : Settings) (n : ℕ) (own : OwnList) (ks : CarrierList) (ss : List 
     abbrev f : Content → Content
     f c = released c spot.offset
 
-    module _ (c : Content) (there : content_of ks.contents spot.carrier ≡ Some c)
-        (new : CarrierList)
+    module _ (has : has_content spot.carrier now.contents ≡ true) (new : CarrierList)
         (is : new ≡ record ks { contents = changed f spot.carrier ks.contents }) where
+      same : seen_as s n own (record ks { contents = changed f spot.carrier ks.contents }) ss
+          created ≡ releasing_at here spot
+      same =
+          let (c, there) = multi-there now seen spot.carrier has in
+          changed-multi f (released-keeps spot.offset) spot.carrier c there
+
       pub seen-released : seen_as s n own new ss created ≡ releasing_at now spot
       seen-released =
-          ap (λ xs. seen_as s n own xs ss created) is
-          ∙ changed-multi f (released-keeps spot.offset) spot.carrier c there
-          ∙ ap (λ i. releasing_at i spot) seen
+          ap (λ xs. seen_as s n own xs ss created) is ∙ same ∙ ap (λ i. releasing_at i spot) seen
 
       pub kept-released : KeepsCarriers s n own new ss created
       kept-released =
           subst (λ xs. KeepsCarriers s n own xs ss created) (sym is)
           (keeping _ _ _ _ _ _ k.strategy k.units
-          (subst Stands
-          (sym (changed-multi f (released-keeps spot.offset) spot.carrier c there))
-          (releasing-Stands here spot k.stands)))
+          (subst Stands (sym same) (releasing-Stands here spot k.stands)))
 
     -- after one in a singleblock carrier
-    module _ (none : content_of ks.contents spot.carrier ≡ None) (new : List Content)
+    module _ (lacks : has_content spot.carrier now.contents ≡ false) (new : List Content)
         (is : new ≡ changed f spot.carrier ss) where
+      same_single : seen_as s n own ks (changed f spot.carrier ss) created ≡ releasing_at here spot
+      same_single = changed-single f (released-keeps spot.offset) spot.carrier
+          (multi-none now seen spot.carrier lacks)
+
       pub seen-single-released : seen_as s n own ks new created ≡ releasing_at now spot
       seen-single-released =
-          ap (λ xs. seen_as s n own ks xs created) is
-          ∙ changed-single f (released-keeps spot.offset) spot.carrier none
+          ap (λ xs. seen_as s n own ks xs created) is ∙ same_single
           ∙ ap (λ i. releasing_at i spot) seen
 
       pub kept-single-released : KeepsCarriers s n own ks new created
       kept-single-released =
           subst (λ xs. KeepsCarriers s n own ks xs created) (sym is)
           (keeping _ _ _ _ _ _ k.strategy k.units
-          (subst Stands
-          (sym (changed-single f (released-keeps spot.offset) spot.carrier none))
-          (releasing-Stands here spot k.stands)))
+          (subst Stands (sym same_single) (releasing-Stands here spot k.stands)))
 
   -- a carrier goes from those that are employed
   module _ (number : ℕ) where

@@ -1,6 +1,6 @@
 -- What a reallocation in place makes of an instance.
 use Rattle.std.proofs.Common.{◌≡◌, ◌≢◌, ℕ, ◌+◌, ◌*◌, ◌/◌, ◌%◌, ◌<◌, ◌≤◌, List, [], ◌∷◌, All, sym}
-use Rattle.std.proofs.Common.{ap, ◌∙◌, subst, refl, inl, inr, arith}
+use Rattle.std.proofs.Common.{false, ap, ◌∙◌, subst, refl, inl, inr, arith}
 use Rattle.std.specs.Prelude.{◌↔◌, Option, Some, None, IsNone, IsSome, IfSome}
 use Rattle.std.proofs.lemmas.Bool.{cases_eq}
 use Rattle.std.proofs.lemmas.List.Elements.{All-head, All-tail}
@@ -15,19 +15,21 @@ use Rattle.ea_model.specs.Content.{Content, allocated, block_at, gap_behind, res
 use Rattle.ea_model.specs.Decision.{decision, size_after}
 use Rattle.ea_model.specs.Instance.{Instance, block_in, changed, content_of, decision_at, employed}
 use Rattle.ea_model.specs.Instance.{own_at, own_of, resized_by, resized_in, resized_to, resizing_at}
-use Rattle.ea_model.specs.Instance.{shortened}
+use Rattle.ea_model.specs.Instance.{has_content, shortened}
 use Rattle.ea_model.specs.Keyed.{changed_at}
 use Rattle.ea_model.proofs.Options.{same-some, some_value}
 use Rattle.ea_model.proofs.Rising.{changed-found, changed_here, changed_past, item_at-All}
 use Rattle.ea_model.proofs.Rising.{item_here, item_past}
 use Rattle.ea_mbc.specs.Gaps.{room_at}
 use Rattle.ea_laws.specs.Kept.{number_of, HasOneBlock, IsLaidOutAlone, Stands}
+use Rattle.ea_laws.specs.Spots.{IsOther}
 use Rattle.ea_laws.proofs.Apart.{only-item}
 use Rattle.ea_laws.proofs.Changed.{resized-keeps}
 use Rattle.ea_laws.proofs.Contents.{block_among}
 use Rattle.ea_laws.proofs.Owned.{with_units}
 use Rattle.ea_laws.proofs.Reallocating.{multi-decided, multi-grows, multi-resized_to, multi-shrinks}
-use Rattle.ea_laws.proofs.Reallocating.{resizing-Stands, single-decided, single-fits}
+use Rattle.ea_laws.proofs.Reallocating.{resizing-begins, resizing-others, resizing-Stands}
+use Rattle.ea_laws.proofs.Reallocating.{single-decided, single-fits}
 use Rattle.ea_laws.proofs.Reallocating.{single-resized_to, single-shortens, single-stays}
 use Rattle.ea_laws.proofs.Standing.{employed-multi, single-own}
 use Rattle.ea_instance.specs.Kept.{KeepsCarriers, seen_as}
@@ -35,6 +37,7 @@ use Rattle.ea_employed.specs.Listed.{CarrierList}
 use Rattle.ea_instance.specs.Own.{OwnList}
 use Rattle.ea_instance.proofs.Following.{some-content}
 use Rattle.ea_instance.proofs.Keeping.{block-single, changed-multi, changed-single, keeping}
+use Rattle.ea_instance.proofs.Keeping.{multi-none}
 
 -- the block stays where it is, and its carrier keeps its pages
 abbrev pub IsInPlace : Decision → Type 0
@@ -103,6 +106,26 @@ one_fits units [] header h = omega (arith, header)
 one_fits units (b ∷ []) header h = omega (arith, h.3)
 one_fits units (b ∷ c ∷ bs) header h = absurd h
 
+-- what the calls on the multiblock carriers need where that is decided
+pub record IsCalled (ks : CarrierList) (spot : Spot) (need : ℕ) (d : Decision) : Type 0 where
+  pub block : IsSome (block_in ks.contents spot)
+  pub fewer : d ≡ ShrinkHere → need + 6 ≤ size_of (block_in ks.contents spot)
+  pub more : d ≡ GrowHere → size_of (block_in ks.contents spot) < need
+  pub fits : d ≡ GrowHere
+      → IfSome (content_of ks.contents spot.carrier) (λ x. need ≤ room_at x spot.offset)
+
+-- the carriers as the decision says, the units that the block has then, and the instance
+abbrev pub units_by : Decision → ℕ → ℕ → Content → ℕ
+units_by d offset need x = size_after d (size_of (block_at x.blocks offset)) need
+    (Multi (gap_behind x offset))
+
+pub record IsCarriedOut (s : Settings) (n : ℕ) (own : OwnList) (ss : List Content) (created : ℕ)
+    (spot : Spot) (need name : ℕ) (now : Instance) (c : Content) (d : Decision) (new : CarrierList)
+    : Type 0 where
+  pub kept : KeepsCarriers s n own new ss created
+  pub seen : seen_as s n own new ss created ≡ resizing_at now spot need name
+  pub told : units_by d spot.offset need c ≡ resized_to now spot need
+
 module _ (s : Settings) (n : ℕ) (own : OwnList) (ks : CarrierList) (ss : List Content)
     (created : ℕ) (k : KeepsCarriers s n own ks ss created) (spot : Spot) (need : ℕ)
     (now : Instance) (seen : seen_as s n own ks ss created ≡ now)
@@ -136,8 +159,8 @@ module _ (s : Settings) (n : ℕ) (own : OwnList) (ks : CarrierList) (ss : List 
     pub begins-multi : IsSome (block_at c.blocks offset)
     begins-multi = subst IsSome (sym block_there.1) refl
 
-    pub block-multi : IsSome (block_in ks.contents spot)
-    block-multi = subst (λ o. IsSome (block_among offset o)) (sym there) begins-multi
+    block_multi : IsSome (block_in ks.contents spot)
+    block_multi = subst (λ o. IsSome (block_among offset o)) (sym there) begins-multi
 
     pub same-size : size_of (block_in ks.contents spot) ≡ size_of (block_at c.blocks offset)
     same-size = ap (λ o. size_of (block_among offset o)) there
@@ -155,38 +178,34 @@ module _ (s : Settings) (n : ℕ) (own : OwnList) (ks : CarrierList) (ss : List 
         ∙ ap (λ i. decision_at i spot need) seen
 
     module _ (d : Decision) (decided : d ≡ decision_at now spot need) where
-      pub shrinks : d ≡ ShrinkHere → need + 6 ≤ size_of (block_in ks.contents spot)
-      shrinks is = omega (
-        arith,
-        multi-shrinks here spot need c block_there.0 k.stands there block_there.1
-            (decided_here d decided ∙ is),
-        size_there,
-      )
-
       grows : d ≡ GrowHere → (block_there.0.size < need)
           × (need ≤ block_there.0.size + gap_behind c offset)
       grows is = multi-grows here spot need c block_there.0 k.stands there block_there.1
           (decided_here d decided ∙ is)
 
-      pub grows-more : d ≡ GrowHere → size_of (block_in ks.contents spot) < need
-      grows-more is = omega (arith, (grows is).0, size_there)
-
-      pub grows-fits : d ≡ GrowHere
-          → IfSome (content_of ks.contents number) (λ x. need ≤ room_at x offset)
-      grows-fits is = subst (λ o. IfSome o (λ x. need ≤ room_at x offset)) (sym there)
-          (omega (arith, (grows is).1, ap size_of block_there.1))
+      pub called : IsCalled ks spot need d
+      called = record {
+        block = block_multi;
+        fewer = λ is. omega (
+          arith,
+          multi-shrinks here spot need c block_there.0 k.stands there block_there.1
+              (decided_here d decided ∙ is),
+          size_there,
+        );
+        more = λ is. omega (arith, (grows is).0, size_there);
+        fits = λ is. subst (λ o. IfSome o (λ x. need ≤ room_at x offset)) (sym there)
+            (omega (arith, (grows is).1, ap size_of block_there.1));
+      }
 
       -- the carriers are as the decision says
       module _ (name : ℕ) (least : 6 ≤ need) (even : need % 2 ≡ 0) (e : Decision) (arm : d ≡ e)
           (place : IsInPlace e) (new : CarrierList)
           (is : new ≡ record ks {
-            contents = changed (λ x. resized x offset (size_after e
-                (size_of (block_at x.blocks offset)) need (Multi (gap_behind x offset))) name)
+            contents = changed (λ x. resized x offset (units_by e offset need x) name)
                 number ks.contents;
           }) where
         abbrev units : Content → ℕ
-        units x = size_after e (size_of (block_at x.blocks offset)) need
-            (Multi (gap_behind x offset))
+        units = units_by e offset need
 
         abbrev after : Instance
         after = seen_as s n own (record ks {
@@ -213,22 +232,23 @@ module _ (s : Settings) (n : ℕ) (own : OwnList) (ks : CarrierList) (ss : List 
             ∙ resized_here e place here spot size name
             ∙ ap (λ x. resized_by x here spot size name) (sym (decided_here d decided ∙ arm))
 
-        -- the units that the block has then
-        pub told-multi : units c ≡ resized_to now spot need
-        told-multi = units_there ∙ ap (λ i. resized_to i spot need) seen
-
-        pub seen-multi : seen_as s n own new ss created ≡ resizing_at now spot need name
-        seen-multi = ap (λ xs. seen_as s n own xs ss created) is ∙ is_then
-            ∙ ap (λ i. resizing_at i spot need name) seen
-
-        pub kept-multi : KeepsCarriers s n own new ss created
-        kept-multi =
-            subst (λ xs. KeepsCarriers s n own xs ss created) (sym is)
-            (keeping _ _ _ _ _ _ k.strategy k.units
-            (subst Stands (sym is_then) (stands_then name least even)))
+        pub carried-out : IsCarriedOut s n own ss created spot need name now c e new
+        carried-out = record {
+          kept =
+              subst (λ xs. KeepsCarriers s n own xs ss created) (sym is)
+              (keeping _ _ _ _ _ _ k.strategy k.units
+              (subst Stands (sym is_then) (stands_then name least even)));
+          seen =
+              ap (λ xs. seen_as s n own xs ss created) is ∙ is_then
+              ∙ ap (λ i. resizing_at i spot need name) seen;
+          told = units_there ∙ ap (λ i. resized_to i spot need) seen;
+        }
 
   -- in a singleblock carrier
-  module _ (none : content_of ks.contents number ≡ None) where
+  module _ (lacks : has_content number now.contents ≡ false) where
+    none : content_of ks.contents number ≡ None
+    none = multi-none s n own ks ss created k now seen number lacks
+
     block_alone : IsSome (block_in ss spot)
     block_alone = subst IsSome (block-single s n own ks ss created k spot none) some_here
 
@@ -242,7 +262,7 @@ module _ (s : Settings) (n : ℕ) (own : OwnList) (ks : CarrierList) (ss : List 
         let (b, found) = some_value (block_at c.blocks offset) begins in (c, b, there, found)
 
     pub never-none : content_of ss number ≡ None → ⊥
-    never-none lacks = let never : Some alone.0 ≡ None = sym alone.2 ∙ lacks in cc
+    never-none gone = let never : Some alone.0 ≡ None = sym alone.2 ∙ gone in cc
 
     abbrev c : Content
     c = alone.0
@@ -409,12 +429,33 @@ module _ (s : Settings) (n : ℕ) (own : OwnList) (ks : CarrierList) (ss : List 
                 (subst (λ xs. KeepsCarriers s n less_own ks xs created) (sym is_last)
                 (keeping _ _ _ _ _ _ k.strategy k.units stands_less))
 
--- a block that was resized begins with the units that were told
-pub told-begins : (size : Option ℕ) (d : Decision) (found : Option BlockAt)
-    (name offset units : ℕ) → (IsNone size ↔ (d ≡ Move)) → IfSome size (λ n. n ≡ units)
-    → (d ≢ Move → found ≡ Some (record { name = name; offset = offset; size = units }))
-    → IfSome size (λ n. found ≡ Some (record { name = name; offset = offset; size = n }))
-told-begins None d found name offset units moves is then = tt
-told-begins (Some n) d found name offset units moves is then =
-    then (λ move. absurd (let never = moves.1 move in cc))
-    ∙ ap (λ m. Some (record { name = name; offset = offset; size = m })) (sym is)
+-- what is told of a reallocation, and what it makes of the instance
+pub record IsAnswer (now new : Instance) (spot : Spot) (need name : ℕ) (told : Option ℕ) : Type 0
+  where
+    pub moves : IsNone told ↔ (decision_at now spot need ≡ Move)
+    pub size : IfSome told (λ units. units ≡ resized_to now spot need)
+    pub resized : new ≡ resizing_at now spot need name
+
+module _ (now new : Instance) (spot : Spot) (need name : ℕ)
+    (some : IsSome (block_in (employed now) spot)) where
+  -- the block begins with the units that were told
+  pub answer-begins : (told : Option ℕ) → IsAnswer now new spot need name told
+      → IfSome told (λ units. block_in (employed new) spot ≡ Some (record {
+        name = name;
+        offset = spot.offset;
+        size = units;
+      }))
+  answer-begins None a = tt
+  answer-begins (Some n) a =
+      ap (λ i. block_in (employed i) spot) a.resized
+      ∙ resizing-begins now spot need name some
+      (λ move. absurd (let never = a.moves.1 move in cc))
+      ∙ ap (λ m. Some (record { name = name; offset = spot.offset; size = m })) (sym a.size)
+
+  -- and the others stay
+  pub answer-others : (told : Option ℕ) → IsAnswer now new spot need name told → (at : Spot)
+      → IsOther spot.carrier spot.offset at
+      → block_in (employed new) at ≡ block_in (employed now) at
+  answer-others told a at other =
+      ap (λ i. block_in (employed i) at) a.resized
+      ∙ resizing-others now spot need name some at other

@@ -220,8 +220,8 @@ impl Instance {
         ensures rest { self.new ≡ dismissing self.old number }
     {
         self.stands();
-        if self.has_multi(number) {
-            return Held::multi(self.give_up(number));
+        if let Some(found) = self.find_multi(number) {
+            return Held::multi(self.give_up_multi(found));
         }
         Held::single(self.give_up_single(number))
     }

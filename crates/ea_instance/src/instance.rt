@@ -2,7 +2,7 @@
 ghost use Rattle.std.specs.Prelude.{◌≡◌, [], ◌≢◌, ℕ, ◌+◌, ◌*◌, ◌/◌, ◌%◌, ◌^◌, ◌<◌, ◌≤◌, max};
 ghost use Rattle.std.specs.Prelude.{true, false, Some, None, Ok, Err, Result, All, IsNone, ◌↔◌};
 ghost use Rattle.std.specs.Prelude.{IsSome, IfSome, IfOk, List as Items};
-ghost use Rattle.std.specs.Prelude.{option_map};
+ghost use Rattle.std.specs.Prelude.{is_some, option_map};
 ghost use Rattle.ea_model.specs.declared.carriers.Kind.TheVariants.{Multi, Single};
 ghost use Rattle.ea_model.specs.declared.carriers.Spot.{Spot};
 ghost use Rattle.ea_model.specs.declared.carriers.CarrierPlan.{CarrierPlan};
@@ -25,6 +25,7 @@ ghost use Rattle.ea_model.specs.Instance.{has_content, has_vacant, is_used, own_
 ghost use Rattle.ea_model.specs.Instance.{least_pages};
 ghost use Rattle.ea_model.specs.Instance as instances;
 ghost use Rattle.ea_instance.specs.Answers.{placing_if};
+ghost use Rattle.ea_employed.specs.Listed.{spot_in, StandsAmong};
 ghost use Rattle.ea_instance.specs.Layouts.{layout_of, plain_layout};
 ghost use Rattle.ea_laws.specs.InOrder.{IsInOrder};
 ghost use Rattle.ea_laws.specs.Kept.{ContentsApart, IsLaidOut, IsSomeones, Stands};
@@ -36,7 +37,7 @@ use crate::layouts::{Layout, multi_layout, single_layout};
 use crate::lines::single_line;
 use crate::own::OwnCarriers;
 use ea_employed::strategies::order_of;
-use ea_employed::{Carriers, Employed, Singles};
+use ea_employed::{Carriers, Employed, Found, Singles};
 use ea_mbc::{Mbc, Spare};
 use ea_model::keyed::item_of;
 use ea_model::{
@@ -197,7 +198,7 @@ impl Instance {
     pub fn employs(&self, carrier: u32) -> bool
         ensures { result ≡ has_content carrier (employed self.now) }
     {
-        self.has_multi(carrier) || item_of(carrier, self.singles.as_slice()).is_some()
+        self.find_multi(carrier).is_some() || item_of(carrier, self.singles.as_slice()).is_some()
     }
 
     /// Whether it owns the carrier, whoever employs it.
@@ -207,11 +208,14 @@ impl Instance {
         self.own.has(carrier)
     }
 
-    /// Whether it employs the carrier, and it is a main or multiblock carrier.
-    pub(crate) fn has_multi(&self, carrier: u32) -> bool
-        ensures { result ≡ has_content carrier self.now.contents }
+    /// Where the carrier stands among the main and multiblock carriers that it employs, if it is
+    /// one of them.
+    pub(crate) fn find_multi(&self, carrier: u32) -> Option<Found>
+        ensures there { is_some result ≡ has_content carrier self.now.contents }
+        ensures number { IfSome result (λ f. f.carrier.key.number ≡ carrier) }
+        ensures stands { IfSome result (StandsAmong self.now.contents) }
     {
-        self.carriers.carrier(carrier).is_some()
+        self.carriers.find(carrier)
     }
 
     /// The block at the spot, if it employs the carrier and a block begins there.
@@ -437,8 +441,8 @@ impl Instance {
         ensures others { (at : Spot) → IsOther spot.carrier spot.offset at
             → block_in (employed self.new) at ≡ block_in (employed self.old) at }
     {
-        if self.has_multi(spot.carrier) {
-            return self.carriers.release(spot.carrier, spot.offset);
+        if let Some(found) = self.find_multi(spot.carrier) {
+            return self.carriers.release(found, spot.offset);
         }
         self.singles.release(spot.carrier, spot.offset);
         true
@@ -477,23 +481,45 @@ impl Instance {
         ensures others { (at : Spot) → IsOther spot.carrier spot.offset at
             → block_in (employed self.new) at ≡ block_in (employed self.old) at }
     {
-        let decision = self.decided(spot, need);
-        if self.has_multi(spot.carrier) {
-            return self.resize_multi(decision, spot, need, name);
+        if let Some(found) = self.find_multi(spot.carrier) {
+            return self.resize_multi(found, spot.offset, need, name);
         }
+        let decision = self.decided_single(spot, need);
         self.resize_single(decision, spot, need, name)
     }
 
-    /// What is decided where the block at the spot is to have `need` units.
-    fn decided(&self, spot: Spot, need: u32) -> Decision
-        requires { IsSome (block_in (employed self.now) spot) }
+    /// Carries out what is decided for a block of the multiblock carrier that was found, and
+    /// answers its units unless it is to move.
+    fn resize_multi(&mut self, found: Found, offset: u32, need: u32, name: u32) -> Option<u32>
+        requires found { StandsAmong self.old.contents found }
+        requires block { IsSome (block_in (employed self.old) (spot_in found offset)) }
+        requires even { need % 2 ≡ 0 }
+        requires least { MIN_BLOCK ≤ need }
+        ensures moves { IsNone result ↔ (decision_at self.old (spot_in found offset) need ≡ Move) }
+        ensures size { IfSome result
+            (λ units. units ≡ resized_to self.old (spot_in found offset) need) }
+        ensures resized { self.new ≡ resizing_at self.old (spot_in found offset) need name }
+    {
+        let block = self.carriers.at(found).extent(offset);
+        let behind = block.after;
+        match decide(self.settings, block.size, need, Where::Multi { behind }) {
+            Decision::Stay => Some(self.carriers.rename(found, offset, name)),
+            Decision::ShrinkHere => {
+                self.carriers.shrink(found, offset, need, name);
+                Some(need)
+            }
+            Decision::GrowHere => Some(self.carriers.grow(found, offset, need, name)),
+            Decision::ShrinkCarrier { .. } => unreachable!(),
+            Decision::Move => None,
+        }
+    }
+
+    /// What is decided where the block of a singleblock carrier is to have `need` units.
+    fn decided_single(&self, spot: Spot, need: u32) -> Decision
+        requires block { IsSome (block_in (employed self.now) spot) }
+        requires single { has_content spot.carrier self.now.contents ≡ false }
         ensures { result ≡ decision_at self.now spot need }
     {
-        if let Some(multi) = self.carriers.carrier(spot.carrier) {
-            let block = multi.extent(spot.offset);
-            let behind = block.after;
-            return decide(self.settings, block.size, need, Where::Multi { behind });
-        }
         match item_of(spot.carrier, self.singles.as_slice()) {
             Some(single) => {
                 let units = single.units();
@@ -505,31 +531,6 @@ impl Instance {
                 )
             }
             None => unreachable!(),
-        }
-    }
-
-    /// Carries out the decision for a block of a multiblock carrier, and answers its units unless
-    /// it is to move.
-    fn resize_multi(&mut self, decision: Decision, spot: Spot, need: u32, name: u32) -> Option<u32>
-        requires block { IsSome (block_in (employed self.old) spot) }
-        requires multi { has_content spot.carrier self.old.contents ≡ true }
-        requires decision { decision ≡ decision_at self.old spot need }
-        requires even { need % 2 ≡ 0 }
-        requires least { MIN_BLOCK ≤ need }
-        ensures moves { IsNone result ↔ (decision ≡ Move) }
-        ensures size { IfSome result (λ units. units ≡ resized_to self.old spot need) }
-        ensures resized { self.new ≡ resizing_at self.old spot need name }
-    {
-        let Spot { carrier, offset } = spot;
-        match decision {
-            Decision::Stay => Some(self.carriers.rename(carrier, offset, name)),
-            Decision::ShrinkHere => {
-                self.carriers.shrink(carrier, offset, need, name);
-                Some(need)
-            }
-            Decision::GrowHere => Some(self.carriers.grow(carrier, offset, need, name)),
-            Decision::ShrinkCarrier { .. } => unreachable!(),
-            Decision::Move => None,
         }
     }
 
@@ -584,7 +585,24 @@ impl Instance {
         ensures carrier { content_of (employed self.old) number ≡ Some result }
         ensures rest { self.new ≡ dismissing self.old number }
     {
-        self.carriers.leave(number).into_multi()
+        match self.find_multi(number) {
+            Some(found) => self.give_up_multi(found),
+            None => unreachable!(),
+        }
+    }
+
+    /// Gives up the multiblock carrier that was found: answers it.
+    pub(crate) fn give_up_multi(&mut self, found: Found) -> Mbc
+        requires found { StandsAmong self.old.contents found }
+        requires multi { IfSome (content_of self.old.contents found.carrier.key.number)
+            (λ c. c.kind ≡ Multi) }
+        requires empty { self.old.settings.acul ≡ 0
+            → IfSome (content_of self.old.contents found.carrier.key.number)
+            (λ c. c.blocks ≡ []) }
+        ensures carrier { content_of (employed self.old) found.carrier.key.number ≡ Some result }
+        ensures rest { self.new ≡ dismissing self.old found.carrier.key.number }
+    {
+        self.carriers.leave(found).into_multi()
     }
 
     /// Gives up a singleblock carrier whose block is gone: answers it. It still owns it.
@@ -604,8 +622,8 @@ impl Instance {
         ensures dismissed { self.new ≡ dismissing self.old number }
         ensures gone { content_of (employed self.new) number ≡ None }
     {
-        if self.has_multi(number) {
-            let employed = self.carriers.leave(number);
+        if let Some(found) = self.find_multi(number) {
+            let employed = self.carriers.leave(found);
             self.spare.keep(employed.carrier);
         } else {
             self.singles.leave(number);

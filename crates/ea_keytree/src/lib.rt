@@ -4,8 +4,6 @@
 
 mod nodes;
 mod searches;
-#[cfg(test)]
-mod tests;
 pub mod tree;
 
 pub use tree::{Found, KeyTree};

@@ -4,5 +4,6 @@ pub mod Index
 pub mod Indexed
 pub mod Layout
 pub mod Parts
+pub mod Spares
 pub mod Tagged
 pub mod Walks

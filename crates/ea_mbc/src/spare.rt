@@ -61,8 +61,12 @@ fn put_first(carrier: Mbc, carriers: &mut Vec<Mbc>)
 }
 
 impl Spare {
-    /// No carriers.
-    pub fn new(alloc: Global, most: u32) -> Spare {
+    ghost use Rattle.ea_mbc.specs.Spares.{most_of};
+
+    /// No carriers. Those that it keeps have `most` units at most together.
+    pub fn new(alloc: Global, most: u32) -> Spare
+        ensures { most_of result ≡ most }
+    {
         Spare {
             most,
             carriers: Vec::new(alloc),
@@ -82,7 +86,9 @@ impl Spare {
 
     /// Takes a carrier that is deallocated: it is kept, in place of those that have been kept for
     /// longest, or dropped.
-    pub fn keep(&mut self, carrier: Mbc) {
+    pub fn keep(&mut self, carrier: Mbc)
+        ensures { most_of self.new ≡ most_of self.old }
+    {
         if !carrier.is_empty() {
             return;
         }
@@ -100,6 +106,7 @@ impl Spare {
     fn take(&mut self, units: u32) -> Option<Mbc>
         ensures units { IfSome result (λ m. m.units ≡ units) }
         ensures empty { IfSome result (λ m. m.blocks ≡ []) }
+        ensures most { most_of self.new ≡ most_of self.old }
     {
         let place = place_of(units, &self.carriers)?;
         Some(self.carriers.remove(place))
@@ -115,7 +122,8 @@ impl Spare {
         inner: Inner,
     ) -> Result<Mbc, OutOfMemory>
         requires { (1 ≤ plan.pages) × (plan.pages ≤ MAX_PAGES) }
-        ensures { IfOk result (λ m. m ≡ created_content owner Multi plan) }
+        ensures made { IfOk result (λ m. m ≡ created_content owner Multi plan) }
+        ensures most { most_of self.new ≡ most_of self.old }
     {
         if let Some(carrier) = self.take(plan.pages * PAGE_UNITS) {
             return Ok(carrier.renewed(plan, owner));

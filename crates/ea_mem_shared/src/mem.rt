@@ -5,10 +5,9 @@ ghost use Rattle.ea_model.specs.Instance.{owner_of};
 ghost use Rattle.ea_machine.specs.Owners.{Absent};
 ghost use Rattle.ea_machine.specs.Machine.{start};
 ghost use Rattle.ea_machine.specs.Setup.{migration, setup_of};
-ghost use Rattle.ea_shared.specs.Carriers.{IsCarrier, employed_if, is_first_upto, main_upto};
-ghost use Rattle.ea_mem_shared.specs.Counted.{IsLast};
+ghost use Rattle.ea_shared.specs.Carriers.{employed_if, is_first_upto, main_upto};
 ghost use Rattle.ea_mem_shared.specs.Memory.{shared_of};
-ghost use Rattle.ea_mem_shared.specs.Places.{counts_at, place_at};
+ghost use Rattle.ea_mem_shared.specs.Places.{place_at};
 
 use crate::carriers::{Place, Places};
 use ea_machine::{Node, OwnerWord};
@@ -120,16 +119,6 @@ impl<C: Carried + Drop> MemShared<C> {
             places,
         })
     }
-
-    /// The greatest number of a carrier up to this one whose owner word counts in a search of the
-    /// pool: the carrier is pooled or busy. 0 where there is none.
-    pub fn last_counted(&self, upto: u32) -> u32
-        requires migrates { self.now.migrates ≡ true }
-        requires carrier { IsCarrier self.now.schedulers upto }
-        ensures { IsLast (counts_at self.now.places) upto result }
-    {
-        self.places.last_counted(upto)
-    }
 }
 
 impl<C: Carried + Drop> Shared for MemShared<C> {
@@ -170,6 +159,10 @@ impl<C: Carried + Drop> Shared for MemShared<C> {
 
     fn look(&mut self, _me: u32, carrier: u32) -> OwnerWord {
         self.places.word(carrier)
+    }
+
+    fn last_counted(&self, carrier: u32) -> u32 {
+        self.places.last_counted(carrier)
     }
 
     fn busy_try(&mut self, me: u32, carrier: u32, seen: OwnerWord) -> Tried<C> {

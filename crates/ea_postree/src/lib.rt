@@ -2,8 +2,6 @@
 #![tactic(auto)]
 
 mod paths;
-#[cfg(test)]
-mod tests;
 pub mod tree;
 
 pub use tree::PosTree;

@@ -8,7 +8,7 @@ use crate::carriers::{put_carriers, put_totals};
 use crate::entries::put_log;
 use crate::lines::Word::Sum;
 use crate::lines::put_line;
-use crate::text::print;
+use crate::text::put_outcome;
 use ea_model::{List, Log, OutOfMemory, Outcome};
 use rayon::prelude::*;
 use std::alloc::Global;
@@ -70,9 +70,31 @@ fn put_texts(text: &mut List<u8>, logs: &[List<u8>]) -> Result<(), OutOfMemory>
     Ok(())
 }
 
-/// The output text, as `print` makes it. Where the logs have many entries, their texts are made
-/// side by side, by as many threads as there are processors. An `Err` says that there was no memory.
+/// Adds the output text, as `put_outcome` does. Where the logs have many entries, their texts are
+/// made side by side, by as many threads as there are processors.
 #[tactic(auto, using(std::proofs::lemmas::List::append_assoc))]
+pub fn put_beside<R: Threads + Sync>(
+    rt: &R,
+    alloc: Global,
+    text: &mut List<u8>,
+    outcome: &Outcome,
+) -> Result<(), OutOfMemory>
+    ensures { OnOk result (text.new.items ≡ text.old.items ++ outcome_text outcome.now) }
+{
+    let logs = outcome.logs.as_slice();
+    if entries_in(logs) < MANY {
+        return put_outcome(text, outcome);
+    }
+    let texts = log_texts(rt, alloc, logs)?;
+    text.reserve(bytes_in(texts.as_slice()))?;
+    put_texts(text, texts.as_slice())?;
+    put_carriers(text, outcome.carriers.as_slice())?;
+    put_totals(text, outcome.totals)?;
+    Ok(())
+}
+
+/// The output text, as `print` makes it and `put_beside` adds it. An `Err` says that there was no
+/// memory.
 pub fn print_beside<R: Threads + Sync>(
     rt: &R,
     alloc: Global,
@@ -80,15 +102,7 @@ pub fn print_beside<R: Threads + Sync>(
 ) -> Result<List<u8>, OutOfMemory>
     ensures { IfOk result (λ printed. printed.items ≡ outcome_text outcome.now) }
 {
-    let logs = outcome.logs.as_slice();
-    if entries_in(logs) < MANY {
-        return print(alloc, outcome);
-    }
-    let texts = log_texts(rt, alloc, logs)?;
     let mut text = List::new(alloc);
-    text.reserve(bytes_in(texts.as_slice()))?;
-    put_texts(&mut text, texts.as_slice())?;
-    put_carriers(&mut text, outcome.carriers.as_slice())?;
-    put_totals(&mut text, outcome.totals)?;
+    put_beside(rt, alloc, &mut text, outcome)?;
     Ok(text)
 }

@@ -12,7 +12,7 @@ mod tails;
 mod tests;
 mod text;
 
-pub use beside::print_beside;
+pub use beside::{print_beside, put_beside};
 pub use lines::{Word, put_line};
 pub use summary::print_summary;
 pub use text::{print, put_outcome};

@@ -1,6 +1,6 @@
 -- A row that a scheduler has done, as it is told, and where the step leaves the scheduler.
 use Rattle.std.specs.Prelude.{◌≡◌, ◌≢◌, ◌⊎◌, ℕ, Bool, true, false, List, [], ◌∷◌, ◌++◌, length}
-use Rattle.std.specs.Prelude.{Option, None, Some, IfSome, IsSome}
+use Rattle.std.specs.Prelude.{Option, None, Some, IfSome, IsSome, replicate}
 use Rattle.std.proofs.Common.{Bor, refl, sym, ap, ◌∙◌, subst, inl, inr}
 use Rattle.ea_model.specs.declared.settings.Config.{Config}
 use Rattle.ea_model.specs.declared.trace.Trace.{Trace}
@@ -9,7 +9,7 @@ use Rattle.ea_model.specs.Settings.{IsValidConfig}
 use Rattle.ea_model.specs.Trace.{IsValidTrace}
 use Rattle.ea_model.proofs.Options.{both_some, if_some, some_value}
 use Rattle.ea_machine.specs.Actor.{Actor}
-use Rattle.ea_machine.specs.Machine.{after, after_row, onward, run, step, wants}
+use Rattle.ea_machine.specs.Machine.{after, after_row, onward, run, run_on, start, step, wants}
 use Rattle.ea_machine.specs.Rows.{Answer, Row}
 use Rattle.ea_machine.specs.Setup.{Setup, setup_of}
 use Rattle.ea_machine.specs.Shared.{Shared}
@@ -18,7 +18,7 @@ use Rattle.ea_machine.specs.Statistics.{observed}
 use Rattle.ea_machine.specs.Table.{answer, effect}
 use Rattle.ea_shared.specs.Calls.{Caller, Did, HasEffect, KnowsFront, TookStep, caller_of}
 use Rattle.ea_sound.proofs.OtherTurns.{actor-since, rest-since}
-use Rattle.ea_sound.proofs.TurnLists.{run-snoc, step-mine, step-shared}
+use Rattle.ea_sound.proofs.TurnLists.{run-append, step-mine, step-shared}
 use Rattle.ea_machine.specs.declared.stages.Stage.{Stage}
 use Rattle.ea_machine.specs.declared.stages.Stage.TheVariants as stages
 use Rattle.ea_machine.specs.declared.asks.Ask.{Ask}
@@ -30,7 +30,7 @@ use Rattle.ea_sched.specs.Creations.{HasPlanned, Plans, PlansAt}
 use Rattle.ea_sched.specs.Steps.{DidRow, IsReady, ObservedRow, Ready, Stepped}
 
 -- something is told
-none-told : (shared : Option Shared) (caller : Option Caller) → shared ≡ None → caller ≡ None
+pub none-told : (shared : Option Shared) (caller : Option Caller) → shared ≡ None → caller ≡ None
     → IsSome shared ⊎ IsSome caller → ⊥
 none-told shared caller unshared uncalled (inl is) = let some = (some_value shared is).1 in cc
 none-told shared caller unshared uncalled (inr is) = let some = (some_value caller is).1 in cc
@@ -132,7 +132,7 @@ module _ (c : Config) (t : Trace) (me : ℕ) (a : Actor) where
 
       pub stepped : (shared new : Option Shared) (caller now : Option Caller)
           → Ready c t me a shared caller → Did me row got shared new caller now
-          → Stepped c t me a b shared new caller now
+          → Stepped c t me 1 a b shared new caller now
       stepped shared new caller now h did =
           let u = answered-so shared new caller now h did in
           let w = run e u.turns in
@@ -225,24 +225,25 @@ restaged-plans s stage at {shared} {caller} same =
 pub row-stepped : (s t : Scheduler) (shared new : Option Shared) (caller now : Option Caller)
     → IsReady s shared caller → is_ended s.stage ≡ false
     → ObservedRow s.stage s t shared new caller now
-    → Stepped s.config s.trace.now s.number (actor_of s) (actor_of t) shared new caller now
+    → Stepped s.config s.trace.now s.number 1 (actor_of s) (actor_of t) shared new caller now
 unfolding after
 row-stepped s t shared new caller now h goes o =
     let d = o.row in
     stepped s.config s.trace.now s.number (actor_of s) d.row d.got (actor_of t) d.wanted
     (stage-goes s.stage goes) (o.is ∙ ap observed d.is) shared new caller now h d.did
 
--- after a step it stands after one turn more
-module _ (c : Config) (t : Trace) (me : ℕ) (a b : Actor) (shared new : Option Shared)
+-- after its steps it stands after as many turns more
+module _ (c : Config) (t : Trace) (me count : ℕ) (a b : Actor) (shared new : Option Shared)
     (caller now : Option Caller) where
   ready-again : IsValidConfig c → IsValidTrace c.schedulers t → IsSome shared ⊎ IsSome caller
-      → Stepped c t me a b shared new caller now → Ready c t me b new now
+      → Stepped c t me count a b shared new caller now → Ready c t me b new now
   ready-again valid made told o =
       let e = setup_of c t in
+      let own = replicate count me in
       let before = run e o.turns in
-      let then = step e before me in
-      let same : run e (o.turns ++ me ∷ []) ≡ then = run-snoc e o.turns me in
-      let mine = caller_of e me (o.turns ++ me ∷ []) in
+      let then = run_on e before own in
+      let same : run e (o.turns ++ own) ≡ then = run-append e (start e) o.turns own in
+      let mine = caller_of e me (o.turns ++ own) in
       let shares = if_some shared (λ s. (s ≡ before.shared) × (new ≡ Some then.shared))
       (λ s. new ≡ Some then.shared) (λ s both. both.1) o.shares in
       let calls = if_some caller (λ x. KnowsFront e me o.turns x × (now ≡ Some mine))
@@ -250,10 +251,10 @@ module _ (c : Config) (t : Trace) (me : ℕ) (a b : Actor) (shared new : Option 
       record {
         config = valid;
         trace = made;
-        turns = o.turns ++ me ∷ [];
+        turns = o.turns ++ own;
         actor = ap (λ (w : State). w.actors me) same ∙ sym o.is;
         shares = told-after shared new (λ s. then.shared)
-            (λ s. s ≡ (run e (o.turns ++ me ∷ [])).shared)
+            (λ s. s ≡ (run e (o.turns ++ own)).shared)
             (λ s. sym (ap (λ (w : State). w.shared) same)) shares o.shares_untold;
         calls = told-after caller now (λ x. mine) (λ x. x ≡ mine) (λ x. refl) calls o.calls_untold;
         told = elim told [
@@ -263,13 +264,14 @@ module _ (c : Config) (t : Trace) (me : ℕ) (a b : Actor) (shared new : Option 
       }
 
 -- so the scheduler is ready again
-pub step-ready : (s t : Scheduler) (shared new : Option Shared) (caller now : Option Caller)
-    → t.config ≡ s.config → t.trace ≡ s.trace → t.number ≡ s.number → IsReady s shared caller
-    → Stepped s.config s.trace.now s.number (actor_of s) (actor_of t) shared new caller now
+pub step-ready : (s t : Scheduler) (count : ℕ) (shared new : Option Shared)
+    (caller now : Option Caller) → t.config ≡ s.config → t.trace ≡ s.trace → t.number ≡ s.number
+    → IsReady s shared caller
+    → Stepped s.config s.trace.now s.number count (actor_of s) (actor_of t) shared new caller now
     → IsReady t new now
-step-ready s t shared new caller now config trace number h took =
+step-ready s t count shared new caller now config trace number h took =
     subst (λ n. Ready t.config t.trace.now n (actor_of t) new now) (sym number)
     (subst (λ (x : Bor Trace). Ready t.config x.now s.number (actor_of t) new now) (sym trace)
     (subst (λ d. Ready d s.trace.now s.number (actor_of t) new now) (sym config)
-    (ready-again s.config s.trace.now s.number (actor_of s) (actor_of t) shared new caller now
+    (ready-again s.config s.trace.now s.number count (actor_of s) (actor_of t) shared new caller now
     h.config h.trace h.told took)))

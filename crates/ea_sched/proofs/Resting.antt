@@ -11,15 +11,24 @@ use Rattle.ea_machine.specs.declared.stages.Stage.TheVariants.{Fetching, Creatin
 use Rattle.ea_machine.specs.declared.stages.Stage.TheVariants.{Ended, Ready}
 use Rattle.ea_machine.specs.Stops.{stop_at, stop_entry}
 use Rattle.ea_sched.specs.declared.state.Scheduler.{Scheduler}
-use Rattle.ea_sched.specs.Acting.{is_ended, is_over, is_stopped, rests, stop_entries}
+use Rattle.ea_sched.specs.Acting.{is_ended, is_over, rests, stop_entries}
+use Rattle.ea_sched.specs.Looks.{AreLeft}
 
-neither : (a b : Bool) → a ≡ false → (not a && b) ≡ false → (a || b) ≡ false
-neither true b goes stopped = absurd cc
-neither false b goes stopped = stopped
+neither : (a b : Bool) → (a || b) ≡ false → (a ≡ false) × (b ≡ false)
+neither true b is = absurd cc
+neither false b is = (refl, is)
 
--- one that has neither ended nor is stopped goes on
-pub goes-on : (s : Scheduler) → is_ended s.stage ≡ false → is_stopped s ≡ false → rests s ≡ false
-goes-on s goes stopped = neither (is_ended s.stage) (is_over s.left) goes stopped
+some-left : (o : Option ℕ) → is_over o ≡ false → AreLeft 1 o
+some-left None is = tt
+some-left (Some zero) is = absurd cc
+some-left (Some (suc n)) is = omega arith
+
+-- one that doesn't rest hasn't ended, and has a step left
+pub goes-on : (s : Scheduler) → rests s ≡ false → is_ended s.stage ≡ false
+goes-on s is = (neither (is_ended s.stage) (is_over s.left) is).0
+
+pub goes-left : (s : Scheduler) → rests s ≡ false → AreLeft 1 s.left
+goes-left s is = some-left s.left (neither (is_ended s.stage) (is_over s.left) is).1
 
 -- what a log says of a stop, by where the scheduler is
 module _ (stop left : Option ℕ) where

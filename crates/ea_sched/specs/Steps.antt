@@ -1,6 +1,6 @@
 -- A scheduler in a run, and its step there.
-use Rattle.std.specs.Prelude.{◌≡◌, ◌⊎◌, ℕ, Bool, List, [], ◌∷◌, ◌++◌, Option, None, Some, IfSome}
-use Rattle.std.specs.Prelude.{IsSome}
+use Rattle.std.specs.Prelude.{◌≡◌, ◌⊎◌, ℕ, Bool, List, ◌++◌, Option, None, Some, IfSome, IsSome}
+use Rattle.std.specs.Prelude.{replicate}
 use Rattle.ea_model.specs.declared.settings.Config.{Config}
 use Rattle.ea_model.specs.declared.trace.Trace.{Trace}
 use Rattle.ea_model.specs.Content.{Content}
@@ -10,7 +10,7 @@ use Rattle.ea_machine.specs.Setup.{migration, setup_of}
 use Rattle.ea_machine.specs.Shared.{Shared}
 use Rattle.ea_machine.specs.declared.stages.Stage.{Stage}
 use Rattle.ea_machine.specs.Actor.{Actor}
-use Rattle.ea_machine.specs.Machine.{after_row, onward, run, step, wants}
+use Rattle.ea_machine.specs.Machine.{after_row, onward, run, run_on, wants}
 use Rattle.ea_machine.specs.Rows.{Answer, Row}
 use Rattle.ea_machine.specs.Statistics.{observed}
 use Rattle.ea_shared.specs.Calls.{Caller, Did, KnowsFront, caller_of}
@@ -30,19 +30,19 @@ pub record Ready (c : Config) (t : Trace) (me : ℕ) (a : Actor) (shared : Optio
   pub calls : IfSome caller (λ x. x ≡ caller_of (setup_of c t) me turns)
   pub told : IsSome shared ⊎ IsSome caller
 
--- scheduler `me`, which stood so after these turns, has taken its step there: it is as it is after
--- the step, and so is what is shared, where that is told. The caller, where that is told, knew all
--- of these turns but the last ones, which were turns of others; now it knows them and its step
-pub record Stepped (c : Config) (t : Trace) (me : ℕ) (a b : Actor) (shared after : Option Shared)
-    (caller now : Option Caller) : Type 0 where
+-- scheduler `me`, which stood so after these turns, has taken that many steps there: it is as it is
+-- after them, and so is what is shared, where that is told. The caller, where that is told, knew all
+-- of these turns but the last ones, which were turns of others; now it knows them and its steps
+pub record Stepped (c : Config) (t : Trace) (me count : ℕ) (a b : Actor)
+    (shared after : Option Shared) (caller now : Option Caller) : Type 0 where
   pub turns : List ℕ
   pub actor : (run (setup_of c t) turns).actors me ≡ a
-  pub is : b ≡ (step (setup_of c t) (run (setup_of c t) turns) me).actors me
-  pub shares : IfSome shared (λ s. (s ≡ (run (setup_of c t) turns).shared)
-      × (after ≡ Some (step (setup_of c t) (run (setup_of c t) turns) me).shared))
+  pub is : b ≡ (run_on (setup_of c t) (run (setup_of c t) turns) (replicate count me)).actors me
+  pub shares : IfSome shared (λ s. (s ≡ (run (setup_of c t) turns).shared) × (after
+      ≡ Some (run_on (setup_of c t) (run (setup_of c t) turns) (replicate count me)).shared))
   pub shares_untold : shared ≡ None → after ≡ None
   pub calls : IfSome caller (λ x. KnowsFront (setup_of c t) me turns x
-      × (now ≡ Some (caller_of (setup_of c t) me (turns ++ me ∷ []))))
+      × (now ≡ Some (caller_of (setup_of c t) me (turns ++ replicate count me))))
   pub calls_untold : caller ≡ None → now ≡ None
 
 -- the scheduler stands so, at a stage

@@ -22,4 +22,3 @@ mod walks;
 pub use migration::migrates;
 pub use passed::Passed;
 pub use state::Scheduler;
-pub use step::Progress;

@@ -1,6 +1,5 @@
 //! A scheduler before its first step, and what it tells.
-ghost use Rattle.std.specs.Prelude.{◌≡◌, ◌++◌, ◌≤◌, min, false, IfOk, length};
-ghost use Rattle.std.specs.Option.{option_map_or};
+ghost use Rattle.std.specs.Prelude.{◌≡◌, ◌++◌, ◌≤◌, false, IfOk, length};
 ghost use Rattle.ea_model.specs.Settings.{IsValidConfig};
 ghost use Rattle.ea_model.specs.Trace.{IsValidTrace};
 ghost use Rattle.ea_machine.specs.Machine.{first_actor};
@@ -159,15 +158,5 @@ impl<'t> Scheduler<'t> {
         ensures { result ≡ acting.rests self.now }
     {
         self.ended() || is_over(self.left)
-    }
-
-    /// As many of these steps as are left until its stop.
-    pub fn within(&self, steps: u32) -> u32
-        ensures { result ≡ option_map_or (λ left. min left steps) self.now.left steps }
-    {
-        match self.left {
-            Some(left) => left.min(steps),
-            None => steps,
-        }
     }
 }

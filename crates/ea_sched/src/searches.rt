@@ -1,5 +1,5 @@
 //! How a scheduler searches for a carrier, fetches one, or creates one.
-ghost use Rattle.std.specs.Prelude.{◌≡◌, ℕ, ◌-◌, ◌<◌, ◌≤◌, true, false, Some, OnErr, OnOk};
+ghost use Rattle.std.specs.Prelude.{◌≡◌, ℕ, ◌≤◌, true, false, Some, OnErr, OnOk};
 ghost use Rattle.ea_machine.specs.declared.parts.Part.{Part};
 ghost use Rattle.ea_machine.specs.declared.stages.Stage.TheVariants as stage;
 ghost use Rattle.ea_machine.specs.Placements as placements;
@@ -9,14 +9,13 @@ ghost use Rattle.ea_machine.specs.Stops as stops;
 ghost use Rattle.ea_sched.specs.Acting.{IsSame, actor_of, ready_of, setup_for};
 ghost use Rattle.ea_sched.specs.Asking.{CanCount, HasMore, IsAsked};
 ghost use Rattle.ea_sched.specs.Creations.{PlansAt, PlansFrom};
-ghost use Rattle.ea_sched.specs.Looks as looks;
-ghost use Rattle.ea_sched.specs.Looks.{HasPassed};
+ghost use Rattle.ea_sched.specs.Looks.{AreLeft, IsQuiet};
 ghost use Rattle.ea_sched.specs.Prepared.{planned_content};
-ghost use Rattle.ea_sched.specs.Steps.{DidRow, HasReached, StartsRow, gone_on_by};
+ghost use Rattle.ea_sched.specs.Steps.{DidRow, HasReached, StartsRow, Stepped, gone_on_by};
 ghost use Rattle.ea_search.specs.Looks.{standing};
 
 use crate::state::Scheduler;
-use crate::stops::less;
+use crate::stops::{less, within};
 use ea_machine::{Ask, OwnerWord, Part, Stage};
 use ea_mbc::Mbc;
 use ea_model::{CarrierPlan, NUMBERS, OutOfMemory};
@@ -156,56 +155,51 @@ impl<'t> Scheduler<'t> {
         self.see(alloc, seen)
     }
 
-    /// The number that its search looks at next, in the last part of the search. None exactly where
-    /// it is in no search, or in another part of it.
-    pub fn next_look(&self) -> Option<u32>
-        ensures { result ≡ looks.next_look self.now.stage }
-    {
-        match &self.stage {
-            Stage::Searching { at, part, .. } => match part {
-                Part::Pool { .. } => Some(*at),
-                _ => None,
-            },
-            _ => None,
-        }
-    }
-
-    /// How many numbers are left there to be looked at, that one among them.
-    pub fn looks_left(&self) -> u32
-        ensures { result ≡ looks.looks_left self.now.stage }
-    {
-        match &self.stage {
-            Stage::Searching { part, .. } => match part {
-                Part::Pool { left, .. } => *left,
-                _ => 0,
-            },
-            _ => 0,
-        }
-    }
-
-    /// Goes on with its search, down to a number from 1 on, by one turn for each number that it
-    /// passes over: a look at an owner word that doesn't count. There is a number left after them.
-    pub fn pass_over(&mut self, next: u32)
-        requires some { 1 ≤ next }
-        requires from { (at : ℕ) × (looks.next_look self.old.stage ≡ Some at) × (next ≤ at)
-            × (at - next < looks.looks_left self.old.stage) }
-        ensures passed { HasPassed next self.old self.new }
+    /// Takes looks of its search of the pool in a row, where more than one turn may be taken: down to
+    /// an owner word that counts, to the last number that is left, or to number 1, and not more than
+    /// `most`, or than are left until its stop. Answers how many it took; 0 where the next turn is
+    /// another one.
+    #[inline(always)]
+    pub(crate) fn pass_looks<S: Shared<Content = Mbc>>(&mut self, shared: &S, most: u32) -> u32
+        requires starts { StartsRow self.old.stage self.old
+            (S.schedulers shared.now) (S.greatest shared.now) (S.migrates shared.now)
+            (S.shared shared.now) (S.caller shared.now) }
+        ensures few { result ≤ most }
+        ensures none { result ≡ 0 → self.new ≡ self.old }
         ensures run { (self.new.config ≡ self.old.config) × (self.new.trace ≡ self.old.trace)
             × (self.new.number ≡ self.old.number) }
         ensures failed { self.new.failed ≡ self.old.failed }
-        ensures left { (at : ℕ) → looks.next_look self.old.stage ≡ Some at
-            → self.new.left ≡ stops.less self.old.left (at - next) }
+        ensures step { 1 ≤ result → Stepped self.old.config self.old.trace.now self.old.number
+            result (actor_of self.old) (actor_of self.new) (S.shared shared.now)
+            (S.shared shared.now) (S.caller shared.now) (S.caller shared.now) }
+        ensures left { 1 ≤ result → AreLeft result self.old.left
+            × (self.new.left ≡ stops.less self.old.left result) }
+        ensures looks { 1 ≤ result → IsQuiet self.old self.new }
     {
-        let Stage::Searching { at, part, .. } = &mut self.stage else {
-            unreachable!()
+        if most == 1 {
+            return 0;
+        }
+        let Stage::Searching { ask, at, part } = &self.stage else {
+            return 0;
         };
-        let Part::Pool { left, .. } = part else {
-            unreachable!()
+        let Part::Pool { left, looked } = part else {
+            return 0;
         };
-        let passed = *at - next;
-        *left -= passed;
-        *at = next;
+        let last = shared.last_counted(*at);
+        let some = within(self.left, most).min(*left - 1);
+        let passed = some.min(*at - last.max(1));
+        if passed == 0 {
+            return 0;
+        }
+        let (ask, at) = (*ask, *at - passed);
+        let (left, looked) = (*left - passed, *looked);
+        self.stage = Stage::Searching {
+            ask,
+            at,
+            part: Part::Pool { left, looked },
+        };
         self.left = less(self.left, passed);
+        passed
     }
 
     /// One try to fetch the carrier that the search saw: it is employed, and the block placed; or

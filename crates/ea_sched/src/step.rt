@@ -1,14 +1,14 @@
-//! A step of a scheduler.
-ghost use Rattle.std.specs.Prelude.{◌≡◌, ◌≢◌, ◌↔◌, ℕ, true, false, [], IfOk, OnErr, OnOk, Ok, Err};
+//! The turns of a scheduler.
+ghost use Rattle.std.specs.Prelude.{◌≡◌, ◌≢◌, ℕ, ◌<◌, ◌≤◌, true, false, IfOk, OnErr, OnOk, Err};
 ghost use Rattle.ea_machine.specs.declared.asks.Ask.{Ask};
 ghost use Rattle.ea_machine.specs.declared.parts.Part.{Part};
 ghost use Rattle.ea_machine.specs.declared.stages.Stage.TheVariants as stage;
 ghost use Rattle.ea_machine.specs.Setup.{migration};
 ghost use Rattle.ea_machine.specs.Statistics as statistics;
 ghost use Rattle.ea_machine.specs.Stops as stops;
-ghost use Rattle.ea_sched.specs.Acting.{IsSame, actor_of, is_ended, is_stopped, rests, setup_for};
+ghost use Rattle.ea_sched.specs.Acting.{IsSame, actor_of, is_ended, rests, setup_for};
 ghost use Rattle.ea_sched.specs.Creations.{PlansAt};
-ghost use Rattle.ea_sched.specs.declared.step.Progress.TheVariants as progress;
+ghost use Rattle.ea_sched.specs.Looks.{AreLeft, IsQuiet};
 ghost use Rattle.ea_sched.specs.Steps.{DidRow, IsReady, ObservedRow, StartsRow, Stepped};
 
 use crate::state::Scheduler;
@@ -19,17 +19,6 @@ use ea_model::OutOfMemory;
 use ea_shared::Shared;
 use std::alloc::Global;
 use std::mem;
-
-/// What came of a step.
-#[derive(Debug, Clone, Copy, PartialEq, Eq)]
-pub enum Progress {
-    /// The scheduler took it.
-    Went,
-    /// The scheduler had ended before, and nothing changed.
-    Ended,
-    /// The scheduler was stopped before, and nothing changed.
-    Stopped,
-}
 
 impl<'t> Scheduler<'t> {
     /// Observes the figures of its carriers as they are.
@@ -43,7 +32,7 @@ impl<'t> Scheduler<'t> {
     }
 
     /// Does the row that is next, which is no look of a search, and goes on by its answer, up to
-    /// the next one. It is kept out of `step`, so that a look doesn't pay for what other rows take.
+    /// the next one. It is kept out of `step_upto`, so that a look doesn't pay for what others take.
     #[inline(never)]
     fn do_row<S: Shared<Content = Mbc>>(
         &mut self,
@@ -120,37 +109,40 @@ impl<'t> Scheduler<'t> {
         Ok(())
     }
 
-    /// Takes one atomic step on what is shared, and does all up to the next one; one that has ended
-    /// or is stopped takes none. An `Err` says that the step plans a multiblock carrier, and that
-    /// there was no memory for it: no other step fails. Where carriers migrate the carrier is kept
-    /// until the step that creates it. From then on an `Err` is all that this scheduler answers.
-    pub fn step<S: Shared<Content = Mbc>>(
+    /// Takes turns, at least one and not more than `most`, and answers how many: looks of a search
+    /// in a row, or one atomic step on what is shared, with all up to the next one. One that has
+    /// ended or is stopped takes none. An `Err` says that the step plans a multiblock carrier, and
+    /// that there was no memory for it: no other step fails. Where carriers migrate the carrier is
+    /// kept until the step that creates it. From then on an `Err` is all that this scheduler answers.
+    pub fn step_upto<S: Shared<Content = Mbc>>(
         &mut self,
         alloc: Global,
         shared: &mut S,
-    ) -> Result<Progress, OutOfMemory>
+        most: u32,
+    ) -> Result<u32, OutOfMemory>
         requires schedulers { S.schedulers shared.old ≡ self.old.config.schedulers }
         requires greatest { S.greatest shared.old ≡ self.old.trace.now.greatest }
         requires migrates { S.migrates shared.old ≡ migration (setup_for self.old) }
         requires ready { self.old.failed ≡ false
             → IsReady self.old (S.shared shared.old) (S.caller shared.old) }
+        requires some { 1 ≤ most }
         ensures stays { S.stays shared.old shared.new }
         ensures run { (self.new.config ≡ self.old.config) × (self.new.trace ≡ self.old.trace)
             × (self.new.number ≡ self.old.number) }
-        ensures step { IfOk result (λ p. p ≡ progress.Went → Stepped self.old.config
-            self.old.trace.now self.old.number (actor_of self.old) (actor_of self.new)
+        ensures few { IfOk result (λ taken. taken ≤ most) }
+        ensures step { IfOk result (λ taken. 1 ≤ taken → Stepped self.old.config
+            self.old.trace.now self.old.number taken (actor_of self.old) (actor_of self.new)
             (S.shared shared.old) (S.shared shared.new) (S.caller shared.old)
             (S.caller shared.new)) }
         ensures ready { OnOk result (IsReady self.new (S.shared shared.new) (S.caller shared.new)) }
         ensures goes { OnOk result (self.old.failed ≡ false × self.new.failed ≡ false) }
-        ensures went { IfOk result (λ p. p ≡ progress.Went
+        ensures went { IfOk result (λ taken. 1 ≤ taken
             → (rests self.old ≡ false) × ((actor_of self.old).stage ≢ stage.Ended)) }
-        ensures left { IfOk result (λ p. p ≡ progress.Went
-            → self.new.left ≡ stops.less self.old.left 1) }
-        ensures ended { IfOk result (λ p. (p ≡ progress.Ended) ↔ (is_ended self.old.stage ≡ true)) }
-        ensures stopped { IfOk result (λ p. (p ≡ progress.Stopped) ↔ (is_stopped self.old ≡ true)) }
-        ensures rests { IfOk result (λ p. p ≢ progress.Went → (self.new ≡ self.old)
-            × (shared.new ≡ shared.old)) }
+        ensures left { IfOk result (λ taken. 1 ≤ taken → AreLeft taken self.old.left
+            × (self.new.left ≡ stops.less self.old.left taken)) }
+        ensures looks { IfOk result (λ taken. 1 < taken → IsQuiet self.old self.new) }
+        ensures rests { IfOk result (λ taken. taken ≡ 0 → (rests self.old ≡ true)
+            × (self.new ≡ self.old) × (shared.new ≡ shared.old)) }
         ensures fails { OnErr result (self.new.failed ≡ true) }
         ensures memory { OnErr result (self.old.failed ≡ false → PlansAt self.old.stage self.old
             (S.shared shared.old) (S.caller shared.old)) }
@@ -160,17 +152,18 @@ impl<'t> Scheduler<'t> {
         if self.failed {
             return Err(OutOfMemory);
         }
-        if self.ended() {
-            return Ok(Progress::Ended);
+        if self.rests() {
+            return Ok(0);
         }
-        if self.stopped() {
-            return Ok(Progress::Stopped);
+        let passed = self.pass_looks(shared, most);
+        if passed > 0 {
+            return Ok(passed);
         }
         if self.advance(alloc, shared).is_err() {
             self.failed = true;
             return Err(OutOfMemory);
         }
         self.left = less(self.left, 1);
-        Ok(Progress::Went)
+        Ok(1)
     }
 }

@@ -1,8 +1,9 @@
 //! Stops: after how many steps a scheduler stops, and how many are left until then.
-ghost use Rattle.std.specs.Prelude.{◌≡◌};
+ghost use Rattle.std.specs.Prelude.{◌≡◌, ◌≤◌};
 ghost use Rattle.ea_model.specs.Trace.{stop_in};
 ghost use Rattle.ea_machine.specs.Stops as stops;
 ghost use Rattle.ea_sched.specs.Acting as acting;
+ghost use Rattle.ea_sched.specs.Looks.{AreLeft};
 
 use ea_model::Stop;
 
@@ -25,6 +26,17 @@ pub(crate) fn less(left: Option<u32>, steps: u32) -> Option<u32>
     match left {
         Some(left) => Some(left.saturating_sub(steps)),
         None => None,
+    }
+}
+
+/// As many of these steps as are left until the stop, if there is one.
+pub(crate) fn within(left: Option<u32>, steps: u32) -> u32
+    ensures few { result ≤ steps }
+    ensures stop { AreLeft result left }
+{
+    match left {
+        Some(left) => left.min(steps),
+        None => steps,
     }
 }
 

@@ -1,6 +1,6 @@
 -- Where carriers are before the first step, what a try to get one tells, and what is handed to a
 -- call that puts one home.
-use Rattle.std.specs.Prelude.{◌≡◌, ◌≢◌, ℕ, ◌*◌, ◌≤◌, ◌&&◌, ◌==◌, Bool, true, false, nat_le}
+use Rattle.std.specs.Prelude.{◌≡◌, ◌≢◌, ℕ, ◌*◌, ◌<◌, ◌≤◌, ◌&&◌, ◌==◌, Bool, true, false, nat_le}
 use Rattle.std.specs.Prelude.{[], ◌∷◌, Option, None, Some}
 use Rattle.ea_model.specs.declared.units.TheConstants.{NUMBERS}
 use Rattle.ea_model.specs.Content.{Content, gaps_of, largest}
@@ -8,10 +8,12 @@ use Rattle.ea_model.specs.Instance.{first_number, owner_of}
 use Rattle.ea_machine.specs.declared.owners.OwnerWord.{OwnerWord}
 use Rattle.ea_machine.specs.declared.owners.OwnerWord.TheVariants as word
 use Rattle.ea_machine.specs.declared.stages.Stage.TheVariants.{Collecting}
-use Rattle.ea_machine.specs.Owners.{CarrierAt}
+use Rattle.ea_machine.specs.Lists.{counts}
+use Rattle.ea_machine.specs.Owners.{CarrierAt, word_of}
 use Rattle.ea_machine.specs.Owners as owners
 use Rattle.ea_machine.specs.Rows.{Answer, Settle}
 use Rattle.ea_machine.specs.Rows as rows
+use Rattle.ea_machine.specs.Shared.{Shared}
 use Rattle.ea_machine.specs.Statistics.{leaving_at}
 use Rattle.ea_machine.specs.Words.{IsLargest}
 use Rattle.ea_shared.specs.Calls.{Caller, WantsRow}
@@ -48,6 +50,11 @@ home_of (owners.Returning i x) = Some x
 -- a carrier number of that many schedulers
 abbrev pub IsCarrier : ℕ → ℕ → Type 0
 IsCarrier schedulers number = (1 ≤ number) × (number ≤ NUMBERS * schedulers)
+
+-- no owner word above the last number counts in a search, down from the carrier's
+abbrev pub CountsNone : ℕ → ℕ → Shared → Type 0
+CountsNone last carrier s =
+    (n : ℕ) → last < n → n ≤ carrier → counts (word_of (s.places n)) ≡ false
 
 -- the word of a carrier that one of that many schedulers has in the pool
 pub record IsPooled (schedulers : ℕ) (seen : OwnerWord) : Type 0 where

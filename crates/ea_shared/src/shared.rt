@@ -11,8 +11,9 @@ ghost use Rattle.ea_machine.specs.Rows.{Got, Head, Home, Look, Push, Saw, SendHo
 ghost use Rattle.ea_machine.specs.Rows.{TakeAll, TakeLink, TakeTry};
 ghost use Rattle.ea_machine.specs.Rows as rows;
 ghost use Rattle.ea_shared.specs.Carriers as carriers;
-ghost use Rattle.ea_shared.specs.Carriers.{HasReturned, IsCarrier, IsCollecting, IsEmptied};
-ghost use Rattle.ea_shared.specs.Carriers.{IsFor, IsLeaving, IsPooled, IsPooledBy, SettlesEmptied};
+ghost use Rattle.ea_shared.specs.Carriers.{CountsNone, HasReturned, IsCarrier, IsCollecting};
+ghost use Rattle.ea_shared.specs.Carriers.{IsEmptied, IsFor, IsLeaving, IsPooled, IsPooledBy};
+ghost use Rattle.ea_shared.specs.Carriers.{SettlesEmptied};
 ghost use Rattle.ea_shared.specs.Calls.{Did, IsWanted};
 ghost use Rattle.ea_shared.specs.Links.{told_by};
 
@@ -21,9 +22,9 @@ use crate::tried::Tried;
 use ea_machine::{Node, OwnerWord};
 use ea_model::{Carried, Spot};
 
-/// What schedulers share. Each call is one row of the machine's table, done by scheduler `me`; no
-/// call takes memory, and none fails. An object may tell what is shared, as plain memory does, or
-/// the caller, as a scheduler's seat does where others step beside it.
+/// What schedulers share. Each call but `last_counted` is one row of the machine's table, done by
+/// scheduler `me`; no call takes memory, and none fails. An object may tell what is shared, as plain
+/// memory does, or the caller, as a scheduler's seat does where others step beside it.
 pub trait Shared {
     ghost use Rattle.std.specs.Prelude.{◌≡◌, ℕ, Bool, Option};
     ghost use Rattle.ea_machine.specs.Shared as machine;
@@ -82,6 +83,19 @@ pub trait Shared {
         ensures stays { stays self.old self.new }
         ensures row { Did me (Look carrier) (Saw result) (shared self.old) (shared self.new)
             (caller self.old) (caller self.new) };
+
+    /// A number up to that of the carrier, so that no owner word above it counts in a search of the
+    /// pool, down from the carrier's: looks at these would come to nothing. It is the carrier's own
+    /// where the object doesn't know of any, as where others step beside the caller.
+    fn last_counted(&self, carrier: u32) -> u32
+        requires migrates { migrates self.now ≡ true }
+        requires carrier { IsCarrier (schedulers self.now) carrier }
+        ensures upto { result ≤ carrier }
+        ensures uncounted { IfSome (shared self.now) (CountsNone result carrier) }
+        ensures beside { IfSome (caller self.now) (λ _. result ≡ carrier) }
+    {
+        carrier
+    }
 
     /// Makes a carrier busy that `me` has in the pool, if its owner word is still the one seen:
     /// then its content comes to the caller.

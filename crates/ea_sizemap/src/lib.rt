@@ -3,7 +3,5 @@
 #![tactic(auto)]
 
 pub mod map;
-#[cfg(test)]
-mod tests;
 
 pub use map::{HeldSize, SizeMap};

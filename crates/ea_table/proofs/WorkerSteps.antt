@@ -21,8 +21,6 @@ use Rattle.ea_sound.proofs.Protocols.{always-protocol}
 use Rattle.ea_sound.proofs.Stopping.{count-append, count-no, count-replicate}
 use Rattle.ea_sound.proofs.TurnLists.{run-snoc}
 use Rattle.ea_sched.specs.declared.state.Scheduler.{Scheduler}
-use Rattle.ea_sched.specs.declared.step.Progress.{Progress}
-use Rattle.ea_sched.specs.declared.step.Progress.TheVariants as progress
 use Rattle.ea_sched.specs.Acting.{actor_of, is_ended, is_over, rests}
 use Rattle.ea_sched.specs.Steps.{IsReady, Ready, Stepped}
 use Rattle.ea_sched.proofs.Doing.{front-stands}
@@ -39,7 +37,7 @@ use Rattle.ea_table.specs.Working.{AtWork}
 
 stepped-less : (c : Config) (t : Trace) (me : ℕ) (a b : Actor) (x y : Caller)
     → Ready c t me a None (Some x) → a.stage ≢ Ended
-    → Stepped c t me a b None None (Some x) (Some y)
+    → Stepped c t me 1 a b None None (Some x) (Some y)
     → own_work c t b y.rest < own_work c t a x.rest
 stepped-less c t me a b x y h goes took =
     let e = setup_of c t in
@@ -59,9 +57,20 @@ stepped-less c t me a b x y h goes took =
       ap (own_work c t (w.actors me)) (front-stands e me took.turns x took.calls.0).1,
     )
 
+-- that many steps of a scheduler, beside which others step
+abbrev pub Steps : Scheduler → Scheduler → Caller → Caller → ℕ → Type 0
+Steps s t x y count = Stepped s.config s.trace.now s.number count (actor_of s) (actor_of t) None
+    None (Some x) (Some y)
+
+-- of up to one step that it takes, it takes one
+pub just-one : (P : ℕ → Type 0) (taken : ℕ) → taken ≤ 1 → 1 ≤ taken → P taken → P 1
+just-one P taken few some = subst P (just taken few some) where
+  just : (taken : ℕ) → taken ≤ 1 → 1 ≤ taken → taken ≡ 1
+  just taken few some = omega (arith, few, some)
+
 pub step-less : (s t : Scheduler) (x y : Caller) → t.config ≡ s.config → t.trace ≡ s.trace
     → IsReady s None (Some x) → (actor_of s).stage ≢ Ended
-    → Stepped s.config s.trace.now s.number (actor_of s) (actor_of t) None None (Some x) (Some y)
+    → Steps s t x y 1
     → own_work t.config t.trace.now (actor_of t) y.rest
     < own_work s.config s.trace.now (actor_of s) x.rest
 step-less s t x y config trace h goes took = omega (
@@ -105,8 +114,7 @@ count-one_more me turns since others = omega (
 
 pub step-counted : (s t : Scheduler) (v u : View) → t.config ≡ s.config → t.trace ≡ s.trace
     → t.number ≡ s.number → rests s ≡ false → t.left ≡ less s.left 1
-    → Stepped s.config s.trace.now s.number (actor_of s) (actor_of t) None None
-    (Some (caller_in v)) (Some (caller_in u))
+    → Steps s t (caller_in v) (caller_in u) 1
     → IsCounted v s → IsCounted u t
 step-counted s t v u config trace number goes left took counted =
     let me = s.number in
@@ -126,15 +134,9 @@ step-counted s t v u config trace number goes left took counted =
     (subst (Counts s.stop (count_in (caller_in v) + 1)) (sym left)
     (one-less s.stop s.left (count_in (caller_in v)) counted (some-left s goes))))
 
--- by whether there was a step
-pub went-or : {P : Type 0} (p : Progress) → (p ≡ progress.Went → P) → (p ≢ progress.Went → P) → P
-went-or progress.Went went other = went refl
-went-or progress.Ended went other = other (λ q. absurd cc)
-went-or progress.Stopped went other = other (λ q. absurd cc)
-
 -- a step makes at most one entry in the log
 pub step-enters : (s t : Scheduler) (x y : Caller) → IsReady s None (Some x)
-    → Stepped s.config s.trace.now s.number (actor_of s) (actor_of t) None None (Some x) (Some y)
+    → Steps s t x y 1
     → (length s.log.items ≤ length t.log.items) × (length t.log.items ≤ length s.log.items + 1)
 step-enters s t x y h took =
     by ((always-protocol s.config s.trace.now h.config h.trace).enters took.turns me me) where

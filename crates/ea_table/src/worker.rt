@@ -15,7 +15,7 @@ use crate::board::Board;
 use crate::pass::Pass;
 use crate::shared::TableShared;
 use ea_model::OutOfMemory;
-use ea_sched::{Progress, Scheduler};
+use ea_sched::Scheduler;
 use std::alloc::Global;
 
 /// Where a scheduler may be held back before a step, so that a test can have schedulers meet. It
@@ -129,8 +129,8 @@ impl<'a, 'b, 't> Working<'a, 'b, 't> {
         ensures memory { OnErr result (self.new.scheduler.failed ≡ true) }
     {
         gate.pass(self.scheduler.number());
-        let progress = self.scheduler.step(alloc, &mut self.shared)?;
-        Ok(progress == Progress::Went)
+        let taken = self.scheduler.step_upto(alloc, &mut self.shared, 1)?;
+        Ok(taken > 0)
     }
 
     /// Steps until an operation is over, which then has its entry in the log, or until the

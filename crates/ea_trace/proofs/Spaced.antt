@@ -6,14 +6,15 @@ use Rattle.std.specs.List.{list_all, list_any, onto_first, slice_split}
 use Rattle.std.specs.Char.{is_ascii_digit}
 use Rattle.std.specs.Prelude.{unwrap_or}
 use Rattle.std.proofs.lemmas.List.Splits.{slice_split-cons_no, slice_split-cons_yes}
-use Rattle.ea_model.proofs.Splits.{or_false, words_none}
+use Rattle.ea_model.proofs.Splits.{or_false, split_none, words_none}
 use Rattle.ea_model.specs.Words.{from_to, is_feed, is_space, is_word, number, numeral, words}
 use Rattle.ea_model.specs.declared.operations.Op.{Op}
 use Rattle.ea_model.specs.declared.operations.Op.TheVariants.{Alloc, Free, Realloc, Give, Take}
 use Rattle.ea_model.specs.declared.units.TheConstants.{MAX_BYTES, MAX_NAME, MAX_TRIES}
 use Rattle.ea_trace.specs.Begins.{BeginsWith, FirstSays, Operands, kind_word}
 use Rattle.ea_trace.specs.Language.{LineWords, WordLines, lines_of}
-use Rattle.ea_trace.specs.Lines.{line_of_words, one_of, operation_of, pair, triple, turns_in}
+use Rattle.ea_trace.specs.Lines.{and_turns, is_star, line_of_words, one_of, operation_of, pair}
+use Rattle.ea_trace.specs.Lines.{triple, turns_at, turns_from, turns_in, turns_of_parts}
 use Rattle.ea_trace.specs.declared.lines.TheConstants.{MAX_READ}
 use Rattle.ea_trace.specs.declared.keywords.OpKind.{OpKind}
 use Rattle.ea_trace.specs.declared.keywords.OpKind.TheVariants as kind
@@ -35,17 +36,16 @@ and_true : (a b : Bool) → (a && b) ≡ true → (a ≡ true) × (b ≡ true)
 and_true true b h = (refl, h)
 and_true false b h = absurd cc
 
-no_spaces : (w : List ℕ) → list_all is_ascii_digit w ≡ true → list_any is_space w ≡ false
-no_spaces [] h = refl
-no_spaces (b ∷ bs) h =
-    let each = and_true (is_ascii_digit b) (list_all is_ascii_digit bs) h in
-    rw (no_space b each.0) (no_spaces bs each.1)
+no_star : (b : ℕ) → is_ascii_digit b ≡ true → is_star b ≡ false
+no_star b h = grind arith
 
-no_feeds : (w : List ℕ) → list_all is_ascii_digit w ≡ true → list_any is_feed w ≡ false
-no_feeds [] h = refl
-no_feeds (b ∷ bs) h =
+-- where no digit passes, no byte of a numeral does
+none_passes : (p : ℕ → Bool) → ((b : ℕ) → is_ascii_digit b ≡ true → p b ≡ false) → (w : List ℕ)
+    → list_all is_ascii_digit w ≡ true → list_any p w ≡ false
+none_passes p f [] h = refl
+none_passes p f (b ∷ bs) h =
     let each = and_true (is_ascii_digit b) (list_all is_ascii_digit bs) h in
-    rw (no_feed b each.0) (no_feeds bs each.1)
+    rw (f b each.0) (none_passes p f bs each.1)
 
 some_byte : (low high n : ℕ) (w : List ℕ) → number low high w ≡ Some n → 0 < length w
 some_byte low high n [] h = absurd cc
@@ -55,8 +55,8 @@ module _ {low high byte n : ℕ} {text rest : List ℕ} (b : BeginsWith low high
   pub whole_number : IsWhole b.word
   whole_number = record {
     some = some_byte low high n b.word b.writes;
-    spaces = no_spaces b.word b.digits;
-    feeds = no_feeds b.word b.digits;
+    spaces = none_passes is_space no_space b.word b.digits;
+    feeds = none_passes is_feed no_feed b.word b.digits;
   }
 
 is_some : (w : List ℕ) → 0 < length w → is_word w ≡ true
@@ -124,6 +124,17 @@ whole_read : (o : Option ℕ) (n : ℕ) → from_to 0 MAX_READ o ≡ Some n
     → option_map (min MAX_READ) o ≡ Some n
 whole_read None n h = absurd cc
 whole_read (Some m) n h = grind arith
+
+-- a word of digits spells one turn, if a scheduler's number
+pub one_turn : (k : ℕ) (text rest : List ℕ) → BeginsWith 0 MAX_READ 32 k text rest
+    → turns_in (words text) ≡ and_turns (Some (turns_from k 1)) (turns_in (words rest))
+one_turn k text rest b =
+    let part = split_none is_star b.word (none_passes is_star no_star b.word b.digits) in
+    let turn : turns_at b.word ≡ Some (turns_from k 1) = ap turns_of_parts part
+    ∙ both_written turns_from _ _ _ _ (whole_read (numeral b.word) k b.writes) refl in
+    ap (λ line. turns_in (words line)) b.whole
+    ∙ ap turns_in (then_words b.word rest (whole_number b))
+    ∙ rw turn refl
 
 -- the operands of each kind
 module _ {text rest : List ℕ} {k : OpKind} where

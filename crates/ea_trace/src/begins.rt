@@ -11,7 +11,7 @@ use ea_model::{MAX_BYTES, MAX_DIGITS, MAX_NAME, MAX_TRIES, Op};
 
 /// The number from `low` to `high` that a text begins with, if that byte comes right after its
 /// digits, and what follows the byte.
-fn number_before(byte: u8, low: u32, high: u32, text: &[u8]) -> Option<(u32, &[u8])>
+pub fn number_before(byte: u8, low: u32, high: u32, text: &[u8]) -> Option<(u32, &[u8])>
     ensures begins { IfSome result (λ f. BeginsWith low high byte f.0 text.now f.1.now) }
     ensures shorter { IfSome result (λ f. length f.1.now < length text.now) }
 {

@@ -15,8 +15,6 @@ mod seen;
 mod stages;
 mod takes;
 mod tally;
-#[cfg(test)]
-mod tests;
 mod turns;
 pub mod words;
 

@@ -1,14 +1,16 @@
 //! The turns of a line.
-ghost use Rattle.std.specs.Prelude.{◌≡◌, ◌<◌, ◌∷◌, [], ◌++◌, option_map, IfOk, IfSome, OnOk};
+ghost use Rattle.std.specs.Prelude.{◌≡◌, ◌<◌, ◌∷◌, [], ◌++◌, Some, length, option_map, IfOk, IfSome};
+ghost use Rattle.std.specs.Prelude.{OnOk};
 ghost use Rattle.std.specs.List.{slice_split};
 ghost use Rattle.std.specs.Option.{option_map_or};
 ghost use Rattle.ea_model.specs.Words.{words};
 ghost use Rattle.ea_trace.specs.Language.{is_outside};
-ghost use Rattle.ea_trace.specs.Lines.{is_star, turns_in};
+ghost use Rattle.ea_trace.specs.Lines.{and_turns, is_star, turns_in};
 ghost use Rattle.ea_trace.specs.Says.{said};
 ghost use Rattle.ea_trace.specs.TurnLines.{Adds, HasPart, tally_in, tally_of};
 
-use crate::lines::Line;
+use crate::begins::number_before;
+use crate::lines::{Line, MAX_READ};
 use crate::tally::Tally;
 use crate::words::scheduler;
 use ea_model::words::{first_word, number};
@@ -49,6 +51,24 @@ fn turns_at(word: &[u8]) -> Option<Turns>
     }
 }
 
+/// The turns that the first word of a line spells, if it spells some, and what follows the word.
+/// None where the line has no word. One turn with a space right after it is read in one pass.
+fn first_turns(line: &[u8]) -> Option<(Option<Turns>, &[u8])>
+    ensures turns { turns_in (words line.now)
+        ≡ option_map_or (λ f. and_turns f.0 (turns_in (words f.1.now))) result (Some []) }
+    ensures shorter { IfSome result (λ f. length f.1.now < length line.now) }
+{
+    if let Some((scheduler, rest)) = number_before(b' ', 0, MAX_READ, line) {
+        let turn = Turns {
+            scheduler,
+            count: 1,
+        };
+        return Some((Some(turn), rest));
+    }
+    let (word, rest) = first_word(line)?;
+    Some((turns_at(word), rest))
+}
+
 /// Adds the turns that a line spells to a list, and answers what they are together; None where a
 /// word of the line spells none, and then some may have been added.
 fn add_turns(
@@ -64,8 +84,8 @@ fn add_turns(
     let mut count = 0u32;
     let mut outside = false;
     let mut rest = line;
-    while let Some((word, after)) = first_word(rest) {
-        let Some(turns) = turns_at(word) else {
+    while let Some((found, after)) = first_turns(rest) {
+        let Some(turns) = found else {
             return Ok(None);
         };
         list.push(turns)?;

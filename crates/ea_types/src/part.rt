@@ -37,7 +37,7 @@ impl<'r, R: Threads + Sync> Part for TypedTraces<'r, R> {
     fn text_of(&self, alloc: Global, config: Config, input: &[u8]) -> Result<List<u8>, Fault> {
         let read = read_types(alloc, config, input)?;
         let outcomes = run_each(self.rt, alloc, config, &read)?;
-        Ok(print_parts(alloc, read.letters.as_slice(), outcomes.as_slice())?)
+        Ok(print_parts(self.rt, alloc, read.letters.as_slice(), outcomes.as_slice())?)
     }
 }
 

@@ -2,8 +2,8 @@ use Rattle.std.proofs.Common.{rules, subst}
 use Rattle.std.specs.Prelude.{IfOk, IfErr}
 use Rattle.std.proofs.lemmas.List.Sorted.{answers_always}
 use Rattle.ea_cset.specs.Carriers.{number_of}
-use Rattle.ea_cset.proofs.Rising.{rising, no_carrier}
-use Rattle.ea_cset.proofs.Searched.{searched, place-index, place-item, free-none, between-free}
+use Rattle.ea_cset.proofs.Rising.{rising}
+use Rattle.ea_cset.proofs.Searched.{searched, place-item, free-none, between-free}
 use Rattle.ea_cset.proofs.Searched.{IsPlace, IsBetween}
 use Rattle.ea_cset.proofs.places.find_in.Goals as goal
 
@@ -13,11 +13,6 @@ place c =
     subst (λ r. IfOk r (IsPlace number_of c.args.number c.args.held.now)) c.in-Ok.is
     (searched number_of c.args.number c.args.held.now (rising c.args.held.now c.requires.rising) _
     r.bound (r.position number_of (answers_always _ _ _ (λ f a r g called. search rules)))).0
-
-pub returns-in-Ok-clause-index : goal.returns-in-Ok-clause-index
-returns-in-Ok-clause-index c =
-    place-index number_of c.args.number c.args.held.now (rising c.args.held.now c.requires.rising)
-    no_carrier c.in-Ok.place (place c)
 
 pub returns-in-Ok-clause-item : goal.returns-in-Ok-clause-item
 returns-in-Ok-clause-item c = λ d.

@@ -1,24 +1,25 @@
-use Rattle.std.proofs.Common.{◌+◌, arith}
-use Rattle.ea_given.proofs.Looking.{within-has}
-use Rattle.ea_given.proofs.Running.{took-count, took-more, took-stands}
+use Rattle.std.proofs.Common.{arith}
+use Rattle.std.proofs.lemmas.Int.{clamps}
+use Rattle.ea_given.proofs.Running.{stands-moves, stands-ready, turns-taken}
 use Rattle.ea_given.proofs.turns.take_some.Goals as goal
 
-pub pass_looks-passed-requires-clause-within : goal.pass_looks-passed-requires-clause-within
-pass_looks-passed-requires-clause-within c = within-has c.args.scheduler.now.left c.args.most
-    c.within-within.result c.within-within.ensures
+pub step_upto-taken-requires-clause-ready : goal.step_upto-taken-requires-clause-ready
+step_upto-taken-requires-clause-ready c =
+    let (d, t, me, steps, w, shares, at) = c.requires.stands in
+    λ going. stands-ready d t me steps c.args.scheduler.now w at c.args.shared.now shares
 
-pub take_turn-requires : goal.take_turn-requires
-take_turn-requires c = took-stands c.args.scheduler.now c.pass_looks-passed.new.scheduler
-    c.args.shared.now c.args.shared.now c.pass_looks-passed.result
-    c.requires.stands c.pass_looks-passed.ensures.took
+pub step_upto-taken-requires-clause-migrates : goal.step_upto-taken-requires-clause-migrates
+step_upto-taken-requires-clause-migrates c =
+    let (d, t, me, steps, w, shares, at) = c.requires.stands in
+    stands-moves d t me steps c.args.scheduler.now w at c.args.shared.now shares
 
 pub returns-clause-took : goal.returns-clause-took
-returns-clause-took c =
-    let s = c.args.scheduler.now in
-    let u = c.pass_looks-passed.new.scheduler in
-    let m = c.args.shared.now in
-    let k = c.pass_looks-passed.result in
-    let x = c.take_turn.new.scheduler in
-    let p = c.take_turn.new.shared in
-    took-count s x m p (k + 1) 1 (omega arith)
-    (took-more s u m m k 1 x p c.pass_looks-passed.ensures.took c.in_ok-take_turn.ensures)
+returns-clause-took c = λ d t me steps w shares at.
+    let e = c.in_ok-taken.ensures in
+    turns-taken d t me steps c.args.scheduler.now w at c.args.shared.now shares c.in_ok-taken.taken
+    c.step_upto.new.self c.step_upto.new.shared e.run.0 e.run.1 e.run.2 e.stays.0 e.stays.1
+    e.stays.2 e.goes.1 (λ some. (e.went some).0) e.left e.step e.rests c.max.result c.max.ensures
+
+pub returns-clause-quiet : goal.returns-clause-quiet
+returns-clause-quiet c = λ many.
+    c.in_ok-taken.ensures.looks (omega (arith, clamps, many, c.max.ensures))

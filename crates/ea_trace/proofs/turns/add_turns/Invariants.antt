@@ -5,8 +5,8 @@ use Rattle.ea_trace.specs.TurnLines.{counted, or_outside, with_front}
 use Rattle.ea_trace.specs.declared.lines.TheConstants.{MAX_READ}
 use Rattle.ea_trace.proofs.turns.add_turns.Given as goal
 
-abbrev pub invariant-loop-word : goal.invariant-loop-word
-invariant-loop-word l = record {
+abbrev pub invariant-loop-found : goal.invariant-loop-found
+invariant-loop-found l = record {
   count : counted l.count (turns_in (words l.rest)) ≡ counted 0 (turns_in (words l.fn.line));
   fits : l.count ≤ MAX_READ;
   outside : or_outside l.schedulers l.outside (turns_in (words l.rest))
@@ -15,5 +15,5 @@ invariant-loop-word l = record {
       ≡ with_front l.initial.list.items (turns_in (words l.fn.line));
 }
 
-abbrev pub decreases-loop-word : goal.decreases-loop-word
-decreases-loop-word l = length l.rest
+abbrev pub decreases-loop-found : goal.decreases-loop-found
+decreases-loop-found l = length l.rest

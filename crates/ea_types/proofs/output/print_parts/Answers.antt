@@ -4,7 +4,7 @@ use Rattle.ea_types.proofs.Outcomes.{no-letters, no-outcomes}
 use Rattle.ea_types.proofs.output.print_parts.Goals as goal
 
 pub returns : goal.returns
-returns c =
+returns g c =
     let text = c.loop-letter.text.items in
     let a = c.loop-letter.letter-iterator.a.rest.now in
     let b = c.loop-letter.letter-iterator.b.rest.now in

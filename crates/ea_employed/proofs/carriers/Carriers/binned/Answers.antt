@@ -3,9 +3,17 @@ use Rattle.std.specs.Prelude.{IsNone}
 use Rattle.std.specs.Option.{option_copied}
 use Rattle.ea_employed.specs.Choices.{candidate_of}
 use Rattle.ea_employed.specs.Listed.{CarrierList, held_of}
+use Rattle.ea_employed.specs.Searches.{order_among}
+use Rattle.ea_employed.proofs.Choosing.{bins-Address}
 use Rattle.ea_employed.proofs.GapCarrier.{binned-chosen, gap-chosen, gap-IsChoice, gap-spans}
 use Rattle.ea_employed.proofs.GapCarrier.{has-carrier, none-chosen}
 use Rattle.ea_employed.proofs.carriers.Carriers.binned.Goals as goal
+
+pub last_up_to-requires : goal.last_up_to-requires
+last_up_to-requires c =
+    c.self.invariant.listed.order
+    ∙ ap (λ (l : CarrierList). order_among l.strategy) c.self.view_is
+    ∙ bins-Address c.args.self.now.strategy c.requires.bins
 
 pub returns-in_err-gap-clause-chosen : goal.returns-in_err-gap-clause-chosen
 returns-in_err-gap-clause-chosen c =

@@ -4,7 +4,7 @@ use Rattle.std.specs.Option.{option_and_then}
 use Rattle.ea_model.specs.Strategies.{inner_of}
 use Rattle.ea_cset.specs.Carriers.{number_found, StandsIn}
 use Rattle.ea_employed.specs.Listed.{CarrierList, candidate_in, chosen_in, held_of}
-use Rattle.ea_employed.proofs.Listed.{found-there}
+use Rattle.ea_employed.proofs.Finding.{found-there}
 use Rattle.ea_employed.proofs.carriers.Carriers.choice_in.Goals as goal
 
 pub returns-clause-chosen : goal.returns-clause-chosen

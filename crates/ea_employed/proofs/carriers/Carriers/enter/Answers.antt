@@ -18,6 +18,16 @@ use Rattle.ea_employed.proofs.Counting.{AreBounded, figures-entered, laid-figure
 use Rattle.ea_employed.proofs.Listed.{IsListed-entered}
 use Rattle.ea_employed.proofs.Places.{has-room}
 use Rattle.ea_employed.proofs.carriers.Carriers.enter.Goals as goal
+use Rattle.ea_employed.proofs.carriers.Carriers.enter.Goals.{After-laid_out}
+
+whole : (c : After-laid_out) → IsLaidOut c.args.employed
+whole c = record {
+  whole = c.requires.whole;
+  shared = c.requires.shared;
+  tiled = subst (λ (m : Content). Tiled 8 m.units m.blocks) c.employed.view_is
+      c.laid_out.ensures.tiled;
+  low = c.requires.low;
+}
 
 pub add-requires-clause-number : goal.add-requires-clause-number
 add-requires-clause-number c =
@@ -37,14 +47,7 @@ pub add-requires-clause-base : goal.add-requires-clause-base
 add-requires-clause-base c =
     let x = c.args.employed in
     let cs = c.self.inside.list.items in
-    let sound : IsLaidOut x =
-    record {
-      whole = c.requires.whole;
-      shared = c.requires.shared;
-      tiled = subst (λ (m : Content). Tiled 8 m.units m.blocks) c.employed.view_is
-          c.laid_out.ensures.tiled;
-      low = c.requires.low;
-    } in
+    let sound = whole (goal.at.add-requires-clause-base c).After-laid_out in
     let laid = subst (λ (l : CarrierList). AreLaid l.contents) (sym c.self.view_is)
     c.requires.laid in
     let apart = subst (λ (l : CarrierList). All (ContentsApart x) l.contents)
@@ -59,14 +62,7 @@ add-requires-clause-base c =
 pub note_entered-requires-clause-address : goal.note_entered-requires-clause-address
 note_entered-requires-clause-address c = λ some.
     let x = c.args.employed in
-    let sound : IsLaidOut x =
-    record {
-      whole = c.requires.whole;
-      shared = c.requires.shared;
-      tiled = subst (λ (m : Content). Tiled 8 m.units m.blocks) c.employed.view_is
-          c.laid_out.ensures.tiled;
-      low = c.requires.low;
-    } in
+    let sound = whole (goal.at.note_entered-requires-clause-address c).After-laid_out in
     let laid = subst (λ (l : CarrierList). AreLaid l.contents) (sym c.self.view_is)
     c.requires.laid in
     let apart = subst (λ (l : CarrierList). All (ContentsApart x) l.contents)
@@ -79,14 +75,7 @@ note_entered-requires-clause-address c = λ some.
 pub note_entered-requires-clause-size : goal.note_entered-requires-clause-size
 note_entered-requires-clause-size c =
     let x = c.args.employed in
-    let sound : IsLaidOut x =
-    record {
-      whole = c.requires.whole;
-      shared = c.requires.shared;
-      tiled = subst (λ (m : Content). Tiled 8 m.units m.blocks) c.employed.view_is
-          c.laid_out.ensures.tiled;
-      low = c.requires.low;
-    } in
+    let sound = whole (goal.at.note_entered-requires-clause-size c).After-laid_out in
     entered-size x sound c.requires.empty c.address-address.result c.largest-size.result
     c.address-address.ensures (c.largest-size.ensures
     ∙ ap (λ m. largest (gaps_of m)) c.employed.view_is)
@@ -100,14 +89,7 @@ note_entered-requires-clause-room c =
 pub invariant_of-self : goal.invariant_of-self
 invariant_of-self c =
     let x = c.args.employed in
-    let sound : IsLaidOut x =
-    record {
-      whole = c.requires.whole;
-      shared = c.requires.shared;
-      tiled = subst (λ (m : Content). Tiled 8 m.units m.blocks) c.employed.view_is
-          c.laid_out.ensures.tiled;
-      low = c.requires.low;
-    } in
+    let sound = whole (goal.at.invariant_of-self c).After-laid_out in
     record {
       listed = IsListed-entered _ _ _ _ x _ _ _ _ _ _ c.self.invariant.listed
           (subst (λ (l : CarrierList). has_bins l.strategy ≡ true

@@ -1,6 +1,7 @@
 use Rattle.std.proofs.Common.{refl, subst}
 use Rattle.std.proofs.lemmas.Result.{IfOk-weaker}
-use Rattle.ea_given.specs.Running.{IsQuiet, Took}
+use Rattle.ea_sched.specs.Looks.{IsQuiet}
+use Rattle.ea_given.specs.Running.{Took}
 use Rattle.ea_given.proofs.GivenRuns.{both-ok, one-has_taken, stays-in_operation}
 use Rattle.ea_given.proofs.run.GivenRun.turns.Goals as goal
 

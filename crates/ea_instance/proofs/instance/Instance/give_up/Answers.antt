@@ -1,38 +1,31 @@
-use Rattle.std.proofs.Common.{◌≡◌, ap, ◌∙◌, sym, subst, []}
-use Rattle.std.specs.Prelude.{IfSome, Some}
+use Rattle.std.proofs.Common.{◌≡◌, true, false, [], ap, ◌∙◌, sym, subst}
+use Rattle.std.specs.Prelude.{is_some, IfSome}
 use Rattle.ea_model.specs.declared.carriers.Kind.TheVariants.{Multi}
 use Rattle.ea_model.specs.Content.{Content}
-use Rattle.ea_model.specs.Instance.{Instance, content_of}
-use Rattle.ea_employed.specs.Binned.{has_bins}
-use Rattle.ea_instance.proofs.Keeping.{found-multi, kept-dismissed, seen-dismissed}
-use Rattle.ea_instance.proofs.Migrating.{bins-stay}
+use Rattle.ea_model.specs.Employment.{dismissing}
+use Rattle.ea_model.specs.Instance.{content_of, employed}
 use Rattle.ea_instance.proofs.instance.Instance.give_up.Goals as goal
 
-pub leave-requires-clause-bins : goal.leave-requires-clause-bins
-leave-requires-clause-bins c = λ bins.
-    subst (λ (i : Instance). IfSome (content_of i.contents c.args.number) (λ (x : Content).
-    x.blocks ≡ []))
-    (sym c.self.view_is)
-    (c.requires.empty (ap (λ (i : Instance). i.settings.acul) (sym c.self.view_is)
-    ∙ bins-stay c.self.inside.settings c.self.invariant.stands.orderly.kept.valid
-    (ap has_bins (sym c.self.invariant.strategy) ∙ bins)))
+pub unreachable-requires : goal.unreachable-requires
+unreachable-requires c =
+    let no : false ≡ true = ap is_some (sym c.in-None.is) ∙ c.find_multi.ensures.there
+    ∙ c.requires.there in
+    absurd cc
 
-pub invariant_of-self : goal.invariant_of-self
-invariant_of-self c = kept-dismissed _ _ c.self.inside.own c.self.inside.carriers
-    c.self.inside.singles c.self.inside.created c.self.invariant c.args.number c.leave.result
-    c.leave.ensures.carrier _ c.leave.ensures.rest
+pub give_up_multi-requires-clause-multi : goal.give_up_multi-requires-clause-multi
+give_up_multi-requires-clause-multi c = subst (λ n. IfSome (content_of c.args.self.now.contents n)
+    (λ (x : Content). x.kind ≡ Multi)) (sym c.in-Some.ensures.number) c.requires.multi
 
-pub into_multi-requires : goal.into_multi-requires
-into_multi-requires c = subst (λ o. IfSome o (λ (x : Content). x.kind ≡ Multi))
-    (ap (λ (i : Instance). content_of i.contents c.args.number) (sym c.self.view_is)
-    ∙ c.leave.ensures.carrier) c.requires.multi
+pub give_up_multi-requires-clause-empty : goal.give_up_multi-requires-clause-empty
+give_up_multi-requires-clause-empty c = λ off.
+    subst (λ n. IfSome (content_of c.args.self.now.contents n) (λ (x : Content). x.blocks ≡ []))
+    (sym c.in-Some.ensures.number) (c.requires.empty off)
 
 pub returns-clause-carrier : goal.returns-clause-carrier
-returns-clause-carrier c = found-multi _ _ c.self.inside.own c.self.inside.carriers
-    c.self.inside.singles c.self.inside.created c.self.invariant _ c.self.view_is c.args.number
-    c.leave.result c.leave.ensures.carrier ∙ ap Some (sym c.into_multi.ensures)
+returns-clause-carrier c =
+    ap (content_of (employed c.args.self.now)) (sym c.in-Some.ensures.number)
+    ∙ c.give_up_multi.ensures.carrier
 
 pub returns-clause-rest : goal.returns-clause-rest
-returns-clause-rest c = seen-dismissed _ _ c.self.inside.own c.self.inside.carriers
-    c.self.inside.singles c.self.inside.created c.self.invariant c.args.number c.leave.result
-    c.leave.ensures.carrier _ c.leave.ensures.rest _ c.self.view_is
+returns-clause-rest c =
+    c.give_up_multi.ensures.rest ∙ ap (dismissing c.args.self.now) c.in-Some.ensures.number

@@ -12,12 +12,7 @@ overflow_add-carrier c =
     c.deref.ensures.value c.index_of-index.ensures.item c.index-carrier.ensures in
     let fewer = own_seen (λ x. c.args.pages < x.pages) _ _ c.args.number o
     (ap (λ (l : OwnList). l.carriers) c.self.view_is) there c.requires.fewer in
-    omega (
-      arith,
-      fewer,
-      own-end _ _ _ c.self.invariant c.args.number o there,
-      c.self.invariant.low,
-    )
+    omega (arith, fewer, own-end _ _ _ c.self.invariant c.args.number o there, c.self.invariant.low)
 
 pub give_back-requires : goal.give_back-requires
 give_back-requires c =

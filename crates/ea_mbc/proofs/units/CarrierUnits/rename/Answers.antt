@@ -1,4 +1,4 @@
-use Rattle.std.proofs.Common.{set, refl, arith, ◌/◌}
+use Rattle.std.proofs.Common.{refl, arith}
 use Rattle.ea_model.specs.Content.{block_at, size_of}
 use Rattle.ea_laws.proofs.Resized.{with_block}
 use Rattle.ea_mbc.specs.Coding.{IsCoded}

@@ -1,58 +1,66 @@
-use Rattle.std.proofs.Common.{◌≡◌, Bor, sym, ap, ◌∙◌, subst, arith}
+use Rattle.std.proofs.Common.{◌≡◌, ◌≤◌, Bor, inl, inr, sym, ap, ◌∙◌, subst, arith}
+use Rattle.std.proofs.lemmas.Bool.{cases_lt}
 use Rattle.ea_model.specs.declared.trace.Trace.{Trace}
 use Rattle.ea_machine.specs.Setup.{migration, setup_of}
-use Rattle.ea_sched.specs.declared.step.Progress.TheVariants as progress
+use Rattle.ea_machine.specs.Stops.{less}
 use Rattle.ea_sched.specs.declared.state.Scheduler.{Scheduler}
 use Rattle.ea_table.specs.declared.shared.TableShared.{TableShared}
 use Rattle.ea_table.specs.Ending.{IsCounted}
 use Rattle.ea_table.specs.Ruling.{caller_in}
-use Rattle.ea_table.proofs.WorkerSteps.{step-counted, step-enters, step-less, went-or}
+use Rattle.ea_table.proofs.WorkerSteps.{Steps, just-one, step-counted, step-enters, step-less}
 use Rattle.ea_table.proofs.worker.Working.step.Goals as goal
 
-pub step-requires-clause-schedulers : goal.step-requires-clause-schedulers
-step-requires-clause-schedulers g c =
+pub step_upto-taken-requires-clause-schedulers : goal.step_upto-taken-requires-clause-schedulers
+step_upto-taken-requires-clause-schedulers g c =
     let at = c.requires.works.4 in
     ap (λ d. d.schedulers) (at.known_config ∙ sym at.config)
 
-pub step-requires-clause-greatest : goal.step-requires-clause-greatest
-step-requires-clause-greatest g c =
+pub step_upto-taken-requires-clause-greatest : goal.step_upto-taken-requires-clause-greatest
+step_upto-taken-requires-clause-greatest g c =
     let at = c.requires.works.4 in
     ap (λ t. t.greatest) (at.known_trace ∙ sym at.trace)
 
-pub step-requires-clause-migrates : goal.step-requires-clause-migrates
-step-requires-clause-migrates g c =
+pub step_upto-taken-requires-clause-migrates : goal.step_upto-taken-requires-clause-migrates
+step_upto-taken-requires-clause-migrates g c =
     let at = c.requires.works.4 in
     let w = c.args.self.now in
     ap (λ d. migration (setup_of d w.shared.pass.seat.me.0.trace))
     (at.known_config ∙ sym at.config)
     ∙ ap (λ t. migration (setup_of w.scheduler.config t)) (at.known_trace ∙ sym at.trace)
 
-pub step-requires-clause-ready : goal.step-requires-clause-ready
-step-requires-clause-ready g c = c.requires.works.4.ready
+pub step_upto-taken-requires-clause-ready : goal.step_upto-taken-requires-clause-ready
+step_upto-taken-requires-clause-ready g c = c.requires.works.4.ready
 
 pub returns-clause-less : goal.returns-clause-less
 returns-clause-less g c = λ went.
-    let w = c.args.self.now in
-    let e = c.in_ok-progress.ensures in
-    let is : c.in_ok-progress.progress ≡ progress.Went = grind (arith, went, c.eq.ensures) in
-    step-less w.scheduler c.step.new.self (caller_in w.shared.pass.seat.me.0)
-    (caller_in c.step.new.shared.pass.seat.me.0) e.run.0 e.run.1
-    (c.requires.works.4.ready e.goes.0) (e.went is).1 (e.step is)
+    let s = c.args.self.now.scheduler in
+    let new = c.step_upto.new.self in
+    let x = caller_in c.args.self.now.shared.pass.seat.me.0 in
+    let y = caller_in c.step_upto.new.shared.pass.seat.me.0 in
+    let e = c.in_ok-taken.ensures in
+    let some : 1 ≤ c.in_ok-taken.taken = grind (arith, went) in
+    step-less s new x y e.run.0 e.run.1 (c.requires.works.4.ready e.goes.0) (e.went some).1
+    (just-one (Steps s new x y) c.in_ok-taken.taken e.few some (e.step some))
 
 pub returns-clause-entry : goal.returns-clause-entry
 returns-clause-entry g c = λ went.
-    let w = c.args.self.now in
-    let e = c.in_ok-progress.ensures in
-    let is : c.in_ok-progress.progress ≡ progress.Went = grind (arith, went, c.eq.ensures) in
-    step-enters w.scheduler c.step.new.self (caller_in w.shared.pass.seat.me.0)
-    (caller_in c.step.new.shared.pass.seat.me.0) (c.requires.works.4.ready e.goes.0) (e.step is)
+    let s = c.args.self.now.scheduler in
+    let new = c.step_upto.new.self in
+    let x = caller_in c.args.self.now.shared.pass.seat.me.0 in
+    let y = caller_in c.step_upto.new.shared.pass.seat.me.0 in
+    let e = c.in_ok-taken.ensures in
+    let some : 1 ≤ c.in_ok-taken.taken = grind (arith, went) in
+    step-enters s new x y (c.requires.works.4.ready e.goes.0)
+    (just-one (Steps s new x y) c.in_ok-taken.taken e.few some (e.step some))
 
 pub returns-clause-works : goal.returns-clause-works
 returns-clause-works g c = λ d t id i at.
-    let w = c.args.self.now in
-    let s = w.scheduler in
-    let new = c.step.new.self in
-    let e = c.in_ok-progress.ensures in
+    let s = c.args.self.now.scheduler in
+    let new = c.step_upto.new.self in
+    let v = c.args.self.now.shared.pass.seat.me.0 in
+    let u = c.step_upto.new.shared.pass.seat.me.0 in
+    let k = c.in_ok-taken.taken in
+    let e = c.in_ok-taken.ensures in
     let was = at.counted e.goes.0 in
     record {
       table = e.stays.0 ∙ at.table;
@@ -62,10 +70,13 @@ returns-clause-works g c = λ d t id i at.
       known_config = e.stays.1 ∙ at.known_config;
       known_trace = e.stays.2 ∙ at.known_trace;
       ready = λ going. e.ready;
-      counted = λ going. went-or c.in_ok-progress.progress
-          (λ is. step-counted s new w.shared.pass.seat.me.0 c.step.new.shared.pass.seat.me.0
-          e.run.0 e.run.1 e.run.2 (e.went is).0 (e.left is) (e.step is) was)
-          (λ other. subst (λ (z : Scheduler). IsCounted c.step.new.shared.pass.seat.me.0 z)
-          (sym (e.rests other).0)
-          (subst (λ (y : TableShared). IsCounted y.pass.seat.me.0 s) (sym (e.rests other).1) was));
+      counted = λ going. elim (cases_lt 0 k) [
+        | inl some ↦ step-counted s new v u e.run.0 e.run.1 e.run.2 (e.went some).0
+            (just-one (λ n. new.left ≡ less s.left n) k e.few some (e.left some).1)
+            (just-one (Steps s new (caller_in v) (caller_in u)) k e.few some (e.step some)) was
+        | inr none ↦
+            let rest = e.rests (omega (arith, none)) in
+            subst (λ (z : Scheduler). IsCounted u z) (sym rest.1)
+            (subst (λ (y : TableShared). IsCounted y.pass.seat.me.0 s) (sym rest.2) was)
+      ];
     }
