@@ -4,7 +4,7 @@ use Rattle.ea_model.specs.declared.settings.Letter.TheVariants.{B, D, E, H, L, R
 use Rattle.ea_model.specs.declared.settings.Strategy.TheVariants.{AoffCbf}
 use Rattle.ea_model.specs.declared.settings.Settings.{Settings}
 use Rattle.ea_model.specs.declared.settings.Config.{Config}
-use Rattle.ea_model.specs.Settings.{can_migrate, region_pages}
+use Rattle.ea_model.specs.Settings.{can_migrate, lets_migrate, region_pages}
 use Rattle.ea_model.specs.Units.{pages_for}
 use Rattle.ea_flags.specs.declared.flag.Scope.{Scope}
 use Rattle.ea_flags.specs.declared.flag.Scope.TheVariants.{One, All}
@@ -61,7 +61,7 @@ set_by c Nothing = c
 
 -- where carriers are to migrate, and can't under the strategy, aoffcbf takes its place
 abbrev pub migrating : Settings → Settings
-migrating s = if nat_lt 0 s.acul && not (can_migrate s.strategy) then
+migrating s = if lets_migrate s && not (can_migrate s.strategy) then
     record s { strategy = AoffCbf } else s
 
 -- what holds after the last word: carriers of temp_alloc don't migrate, whatever was set

@@ -116,7 +116,7 @@ fn can_migrate(strategy: Strategy) -> bool
 fn settle(settings: Settings) -> Settings
     ensures { result ≡ migrating settings }
 {
-    if settings.acul > 0 && !can_migrate(settings.strategy) {
+    if settings.lets_migrate() && !can_migrate(settings.strategy) {
         Settings {
             strategy: Strategy::AoffCbf,
             ..settings

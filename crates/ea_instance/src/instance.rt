@@ -324,7 +324,7 @@ impl Instance {
     pub fn is_alone(&self, need: u32) -> bool
         ensures { result ≡ is_alone self.now need }
     {
-        need > self.settings.sbct
+        self.settings.is_above_threshold(need)
     }
 
     /// The carrier that it would create for a block of `need` units, or why it can't: a multiblock

@@ -6,7 +6,7 @@ use Rattle.ea_model.specs.declared.settings.Settings.{Settings}
 use Rattle.ea_model.specs.declared.operations.Op.{Op}
 use Rattle.ea_model.specs.declared.trace.Trace.{Trace}
 use Rattle.ea_model.specs.declared.units.TheConstants.{NUMBERS}
-use Rattle.ea_model.specs.Settings.{region_pages, settings_of}
+use Rattle.ea_model.specs.Settings.{lets_migrate, region_pages, settings_of}
 use Rattle.ea_model.specs.Trace.{stop_in, text_at, texts_of}
 
 -- what all schedulers know
@@ -43,7 +43,7 @@ is_scheduler setup i = nat_lt 0 i && nat_le i setup.schedulers
 
 -- whether carriers migrate
 abbrev pub migration : Setup → Bool
-migration setup = nat_lt 0 setup.settings.acul
+migration setup = lets_migrate setup.settings
 
 -- the first page of an instance's region
 abbrev pub first_page : Setup → ℕ → ℕ

@@ -110,7 +110,7 @@ impl<C: Carried + Drop> MemShared<C> {
         let settings = config.of(trace.letter);
         let queues = Queues::new(alloc, config.schedulers, trace.greatest)?;
         let given = Names::whole(alloc, trace.greatest)?;
-        let migrates = settings.acul > 0;
+        let migrates = settings.lets_migrate();
         let places = first_places(alloc, migrates, settings.mmbcs > 0, config.schedulers)?;
         Ok(MemShared {
             queues,

@@ -1,8 +1,9 @@
 -- What a reallocation decides: the first line that holds; and the units that its block has then.
-use Rattle.std.specs.Prelude.{ℕ, ◌+◌, ◌-◌, ◌*◌, ◌&&◌, nat_le, nat_lt, ◌==◌, if◌then◌else◌}
+use Rattle.std.specs.Prelude.{ℕ, ◌+◌, ◌-◌, ◌*◌, ◌&&◌, not, nat_le, nat_lt, ◌==◌, if◌then◌else◌}
 use Rattle.ea_model.specs.declared.settings.Settings.{Settings}
 use Rattle.ea_model.specs.declared.units.TheConstants.{HEADER_UNITS, MIN_BLOCK}
 use Rattle.ea_model.specs.Content.{taken_of}
+use Rattle.ea_model.specs.Settings.{is_above_threshold}
 use Rattle.ea_model.specs.Units.{pages_for}
 use Rattle.ea_model.specs.declared.reallocation.Decision.{Decision}
 use Rattle.ea_model.specs.declared.reallocation.Decision.TheVariants.{Stay, ShrinkHere, GrowHere}
@@ -13,7 +14,7 @@ use Rattle.ea_model.specs.declared.reallocation.Where.TheVariants.{Foreign, Mult
 -- a block of `old` units in a multiblock carrier, with a gap of `behind` units directly behind it
 abbrev pub in_multi : Settings → ℕ → ℕ → ℕ → Decision
 in_multi s old fresh behind =
-    if nat_lt s.sbct fresh then Move
+    if is_above_threshold s fresh then Move
     else if fresh == old then Stay
     else if nat_lt fresh old && nat_lt (old - fresh) MIN_BLOCK then Stay
     else if nat_lt fresh old && nat_lt (s.rmbcmt * old) (100 * (old - fresh)) then Move
@@ -36,8 +37,9 @@ tail units fresh = units - HEADER_UNITS - fresh
 abbrev pub in_single : Settings → ℕ → ℕ → ℕ → Decision
 in_single s old fresh units =
     if nat_lt units (HEADER_UNITS + fresh) then Move
-    else if nat_le fresh s.sbct && nat_le (s.rsbcmt * units) (100 * tail units fresh) then Move
-    else if nat_lt s.sbct fresh && (nat_lt fresh old
+    else if not (is_above_threshold s fresh)
+    && nat_le (s.rsbcmt * units) (100 * tail units fresh) then Move
+    else if is_above_threshold s fresh && (nat_lt fresh old
     && (nat_lt (pages_for (HEADER_UNITS + fresh)) (pages_for units)
     && (nat_le s.asbcst (tail units fresh)
     && nat_le (s.rsbcst * units) (100 * tail units fresh))))

@@ -32,6 +32,7 @@ use Rattle.ea_model.specs.Content.{free_units, is_multi, is_vacant}
 use Rattle.ea_model.specs.Decision.{decision, size_after}
 use Rattle.ea_model.specs.Strategies.{choice_for, spot_of}
 use Rattle.ea_model.specs.Region.{runs, lowest_run, with_segment}
+use Rattle.ea_model.specs.Settings.{is_above_threshold}
 use Rattle.ea_model.specs.Keyed.{item_at, entered, merged, without, changed_at}
 
 -- an instance: its number, from 1, its region from page `first` up to `end`, the carriers that it
@@ -165,7 +166,7 @@ free_run i pages = lowest_run pages (runs i.first i.end (segments i.own))
 
 -- whether a block of this need has a carrier of its own
 abbrev pub is_alone : Instance → ℕ → Bool
-is_alone i need = nat_lt i.settings.sbct need
+is_alone i need = is_above_threshold i.settings need
 
 -- the pages that the carrier for a block of this need should have: a singleblock carrier has the
 -- least

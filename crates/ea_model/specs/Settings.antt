@@ -1,5 +1,5 @@
 -- What the emulator flags set, and the configurations that are valid.
-use Rattle.std.specs.Prelude.{◌≡◌, ℕ, ◌*◌, ◌/◌, ◌<◌, ◌≤◌, Bool, true, false}
+use Rattle.std.specs.Prelude.{◌≡◌, ℕ, ◌*◌, ◌/◌, ◌<◌, ◌≤◌, nat_lt, Bool, true, false}
 use Rattle.ea_model.specs.declared.settings.Letter.{Letter}
 use Rattle.ea_model.specs.declared.settings.Letter.TheVariants.{B, D, E, H, L, R, S, T}
 use Rattle.ea_model.specs.declared.settings.Strategy.{Strategy}
@@ -28,6 +28,14 @@ settings_of c T = c.t
 -- the pages of an instance's region: an equal part of the super carrier's
 abbrev pub region_pages : Config → ℕ
 region_pages c = c.scs * MEGABYTE_PAGES / c.schedulers
+
+-- whether a block of this need has a carrier of its own
+abbrev pub is_above_threshold : Settings → ℕ → Bool
+is_above_threshold s need = nat_lt s.sbct need
+
+-- whether carriers migrate
+abbrev pub lets_migrate : Settings → Bool
+lets_migrate s = nat_lt 0 s.acul
 
 -- whether carriers can migrate under the strategy
 abbrev pub can_migrate : Strategy → Bool

@@ -1,7 +1,7 @@
 //! What the emulator flags set.
 ghost use Rattle.std.specs.Prelude.{◌≡◌, ◌≤◌};
 ghost use Rattle.ea_model.specs.declared.units.TheConstants.{MAX_MEGABYTES};
-ghost use Rattle.ea_model.specs.Settings.{region_pages, settings_of};
+ghost use Rattle.ea_model.specs.Settings.{is_above_threshold, lets_migrate, region_pages, settings_of};
 
 use crate::units::MEGABYTE_PAGES;
 
@@ -75,6 +75,22 @@ pub struct Settings {
     pub asbcst: u32,
     /// Whether a reallocation always moves.
     pub ramv: bool,
+}
+
+impl Settings {
+    /// Whether a block of `need` units has a carrier of its own: it is above the threshold `sbct`.
+    pub fn is_above_threshold(&self, need: u32) -> bool
+        ensures { result ≡ is_above_threshold self.now need }
+    {
+        need > self.sbct
+    }
+
+    /// Whether carriers migrate: there is a utilization below which one is abandoned.
+    pub fn lets_migrate(&self) -> bool
+        ensures { result ≡ lets_migrate self.now }
+    {
+        self.acul > 0
+    }
 }
 
 /// What all flags set: the schedulers, the super carrier in megabytes, and each allocator's

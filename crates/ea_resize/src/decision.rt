@@ -22,7 +22,7 @@ fn is_at_least(units: u32, percent: u32, whole: u32) -> bool
 fn decide_multi(settings: Settings, old: u32, fresh: u32, behind: u32) -> Decision
     ensures { result ≡ in_multi settings old fresh behind }
 {
-    if fresh > settings.sbct {
+    if settings.is_above_threshold(fresh) {
         Decision::Move
     } else if fresh == old {
         Decision::Stay
@@ -62,7 +62,7 @@ fn decide_single(settings: Settings, old: u32, fresh: u32, units: u32) -> Decisi
         return Decision::Move;
     }
     let tail = units - HEADER_UNITS - fresh;
-    if fresh <= settings.sbct {
+    if !settings.is_above_threshold(fresh) {
         if is_at_least(tail, settings.rsbcmt, units) {
             return Decision::Move;
         }

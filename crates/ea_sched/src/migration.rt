@@ -8,5 +8,5 @@ use ea_model::{Config, Trace};
 pub fn migrates(config: Config, trace: &Trace) -> bool
     ensures { result ≡ migration (setup_of config trace.now) }
 {
-    config.of(trace.letter).acul > 0
+    config.of(trace.letter).lets_migrate()
 }

@@ -195,7 +195,7 @@ fn outcome_of_closed(
         schedulers: config.schedulers,
         greatest: trace.greatest,
         given,
-        migrates: config.of(trace.letter).acul > 0,
+        migrates: config.of(trace.letter).lets_migrate(),
     };
     outcome_of(alloc, config, trace, schedulers, &still)
 }

@@ -82,7 +82,7 @@ fn first_words(alloc: Global, config: Config, trace: &Trace) -> Result<Vec<u64>,
 {
     let mut words = vec![in alloc; NO_NODE; count_words(config.schedulers, trace.greatest)]?;
     let settings = config.of(trace.letter);
-    if settings.acul == 0 || settings.mmbcs == 0 {
+    if !settings.lets_migrate() || settings.mmbcs == 0 {
         return Ok(words);
     }
     employ_mains(&mut words, config.schedulers, trace.greatest);
