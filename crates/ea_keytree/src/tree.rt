@@ -90,6 +90,13 @@ impl KeyTree {
         Ok(self.nodes.reserve(extra as usize)?)
     }
 
+    /// How many positions there are.
+    pub fn len(&self) -> u32
+        ensures { result ≡ length self.now.keys }
+    {
+        self.nodes.len() as u32
+    }
+
     /// Adds a position, which holds no key, where room was reserved. It takes no memory.
     pub fn push(&mut self)
         requires { 0 < self.old.room }

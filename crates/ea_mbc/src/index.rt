@@ -12,6 +12,7 @@ ghost use Rattle.ea_mbc.specs.Indexed.{taken_out};
 use ea_model::{Gap, HEADER_UNITS, Inner, MIN_BLOCK, OutOfMemory};
 use ea_postree::PosTree;
 use ea_sizemap::SizeMap;
+use ea_tags::PagedArray;
 use std::alloc::Global;
 use std::marker::Model;
 
@@ -19,7 +20,7 @@ use std::marker::Model;
 const APART: u32 = 2 * MIN_BLOCK;
 
 /// The lowest gap of at least `need` units.
-fn lowest(offsets: &[u32], tree: &PosTree, need: u32) -> Option<Gap>
+fn lowest(offsets: &PagedArray, tree: &PosTree, need: u32) -> Option<Gap>
     requires { length tree.now ≤ length offsets.now }
     ensures { (s : Slots) (end : ℕ) (gs : List carriers.Gap) → s.offsets ≡ offsets.now
         → s.sizes ≡ tree.now → Indexed end s gs → AreApart HEADER_UNITS end gs
@@ -27,13 +28,13 @@ fn lowest(offsets: &[u32], tree: &PosTree, need: u32) -> Option<Gap>
 {
     let slot = tree.first_at_least(need.max(1))?;
     Some(Gap {
-        offset: offsets[slot as usize],
+        offset: offsets.get(slot),
         size: tree.value(slot),
     })
 }
 
 /// The lowest of the smallest gaps of at least `need` units.
-fn smallest_lowest(offsets: &[u32], map: &SizeMap, need: u32) -> Option<Gap>
+fn smallest_lowest(offsets: &PagedArray, map: &SizeMap, need: u32) -> Option<Gap>
     requires { length map.now.held ≤ length offsets.now }
     ensures { (s : Slots) (end : ℕ) (gs : List carriers.Gap) → s.offsets ≡ offsets.now
         → s.sizes ≡ map.now.held → Indexed end s gs → AreApart HEADER_UNITS end gs
@@ -41,13 +42,13 @@ fn smallest_lowest(offsets: &[u32], map: &SizeMap, need: u32) -> Option<Gap>
 {
     let smallest = map.lowest_at_least(need.max(1))?;
     Some(Gap {
-        offset: offsets[smallest.position as usize],
+        offset: offsets.get(smallest.position),
         size: smallest.size,
     })
 }
 
 /// The highest of the smallest gaps of at least `need` units.
-fn smallest_highest(offsets: &[u32], map: &SizeMap, need: u32) -> Option<Gap>
+fn smallest_highest(offsets: &PagedArray, map: &SizeMap, need: u32) -> Option<Gap>
     requires { length map.now.held ≤ length offsets.now }
     ensures { (s : Slots) (end : ℕ) (gs : List carriers.Gap) → s.offsets ≡ offsets.now
         → s.sizes ≡ map.now.held → Indexed end s gs → AreApart HEADER_UNITS end gs
@@ -55,7 +56,7 @@ fn smallest_highest(offsets: &[u32], map: &SizeMap, need: u32) -> Option<Gap>
 {
     let smallest = map.highest_at_least(need.max(1))?;
     Some(Gap {
-        offset: offsets[smallest.position as usize],
+        offset: offsets.get(smallest.position),
         size: smallest.size,
     })
 }
@@ -67,7 +68,7 @@ fn smallest_highest(offsets: &[u32], map: &SizeMap, need: u32) -> Option<Gap>
 #[derive(Drop)]
 pub struct GapIndex {
     inner: Inner,
-    offsets: Vec<u32>,
+    offsets: PagedArray,
     tree: PosTree,
     map: SizeMap,
 }
@@ -80,11 +81,11 @@ impl Model for GapIndex {
 
     ghost view = { λ i. record {
       inner = i.inner;
-      offsets = i.offsets.items;
+      offsets = i.offsets;
       sizes = sizes_by i.inner i.tree i.map;
     } };
 
-    ghost invariant = { λ i. IsKept i.inner i.offsets.items i.tree i.map };
+    ghost invariant = { λ i. IsKept i.inner i.offsets i.tree i.map };
 }
 
 impl GapIndex {
@@ -99,7 +100,7 @@ impl GapIndex {
         };
         Ok(GapIndex {
             inner,
-            offsets: vec![in alloc; 0; slots as usize]?,
+            offsets: PagedArray::new(alloc, slots)?,
             tree: PosTree::new(alloc, positions)?,
             map: SizeMap::new(alloc, slots.saturating_mul(APART), held)?,
         })
@@ -156,7 +157,7 @@ impl GapIndex {
     {
         if size != 0 {
             let slot = offset / APART;
-            self.offsets[slot as usize] = offset;
+            self.offsets.set(slot, offset);
             match self.inner {
                 Inner::Aoff => self.tree.set(slot, size),
                 Inner::Bf | Inner::Aobf => self.map.insert(size, slot),

@@ -1,2 +1,4 @@
 pub mod Keying
 pub mod Choosing
+pub mod Placing
+pub mod Changing

@@ -19,7 +19,8 @@ pub returns : goal.returns
 returns c = λ s end gs offsets sizes indexed apart.
     let i = subst (λ x. Indexed end x gs) (slots-of s _ _ offsets sizes) indexed in
     let f = c.in_ok-slot.ensures.found in
-    ap (λ n. Some (gap_of (slice_index c.args.offsets.now c.in_ok-slot.slot) n)) c.value.ensures
+    ap (λ o. Some (gap_of o c.value.result)) c.get.ensures
+    ∙ ap (λ n. Some (gap_of (slice_index c.args.offsets.now c.in_ok-slot.slot) n)) c.value.ensures
     ∙ sym (choice-aoff HEADER_UNITS end end _ gs apart i c.args.need c.in_ok-slot.slot
     (subst (λ n. n ≤ slice_index c.args.tree.now c.in_ok-slot.slot) c.max.ensures f.great)
     (subst (λ n. (q : ℕ) → q < c.in_ok-slot.slot → slice_index c.args.tree.now q < n) c.max.ensures

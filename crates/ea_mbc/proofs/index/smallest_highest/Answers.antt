@@ -1,9 +1,10 @@
-use Rattle.std.proofs.Common.{◌≤◌, ◌<◌, All, refl, sym, ◌∙◌, subst}
+use Rattle.std.proofs.Common.{◌≤◌, ◌<◌, All, refl, sym, ap, ◌∙◌, subst}
+use Rattle.std.specs.Prelude.{Some}
 use Rattle.ea_model.specs.declared.carriers.Inner.TheVariants.{Bf}
 use Rattle.ea_model.specs.declared.units.TheConstants.{HEADER_UNITS}
 use Rattle.ea_mbc.specs.Indexed.{Indexed}
 use Rattle.ea_mbc.proofs.Chosen.{choice-nothing, choice-bf}
-use Rattle.ea_mbc.proofs.Slots.{slots-of}
+use Rattle.ea_mbc.proofs.Slots.{gap_of, slots-of}
 use Rattle.ea_mbc.proofs.index.smallest_highest.Goals as goal
 
 pub returns-in_err-smallest : goal.returns-in_err-smallest
@@ -20,7 +21,8 @@ returns c = λ s end gs offsets sizes indexed apart.
     let f = c.in_ok-smallest.ensures.found in
     let at = c.in_ok-smallest.ensures.highest in
     let size = c.in_ok-smallest.smallest.size in
-    sym (choice-bf HEADER_UNITS end end _ gs apart i c.args.need size
+    ap (λ o. Some (gap_of o size)) c.get.ensures
+    ∙ sym (choice-bf HEADER_UNITS end end _ gs apart i c.args.need size
     c.in_ok-smallest.smallest.position (subst (λ n. n ≤ size) c.max.ensures f.great)
     (subst (λ n. All (λ t. n ≤ t → size ≤ t) c.args.map.now.held) c.max.ensures f.least) at.held
     at.highest)
