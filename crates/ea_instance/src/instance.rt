@@ -21,7 +21,7 @@ ghost use Rattle.ea_model.specs.Instance.{is_alone, multis, unused_from, plan, c
 ghost use Rattle.ea_model.specs.Instance.{creating, creating_single, chosen_spot, employed};
 ghost use Rattle.ea_model.specs.Instance.{single_place, place_at, releasing_at, own_of, resized_to};
 ghost use Rattle.ea_model.specs.Instance.{resizing_at, decision_at, content_of, block_in};
-ghost use Rattle.ea_model.specs.Instance.{has_content, has_vacant, is_used, own_at, segments};
+ghost use Rattle.ea_model.specs.Instance.{has_content, has_vacant, own_at, segments};
 ghost use Rattle.ea_model.specs.Instance.{least_pages};
 ghost use Rattle.ea_model.specs.Instance as instances;
 ghost use Rattle.ea_instance.specs.Answers.{placing_if};
@@ -199,13 +199,6 @@ impl Instance {
         ensures { result ≡ has_content carrier (employed self.now) }
     {
         self.find_multi(carrier).is_some() || item_of(carrier, self.singles.as_slice()).is_some()
-    }
-
-    /// Whether it owns the carrier, whoever employs it.
-    pub fn owns(&self, carrier: u32) -> bool
-        ensures { result ≡ is_used carrier self.now.own }
-    {
-        self.own.has(carrier)
     }
 
     /// Where the carrier stands among the main and multiblock carriers that it employs, if it is
@@ -575,23 +568,7 @@ impl Instance {
         self.carriers.adopt(Employed { kind, carrier });
     }
 
-    /// Gives up a multiblock carrier that it employs: answers it. If it owns it, it still does. It
-    /// takes no memory.
-    pub fn give_up(&mut self, number: u32) -> Mbc
-        requires there { IsSome (content_of self.old.contents number) }
-        requires multi { IfSome (content_of self.old.contents number) (λ c. c.kind ≡ Multi) }
-        requires empty { self.old.settings.acul ≡ 0
-            → IfSome (content_of self.old.contents number) (λ c. c.blocks ≡ []) }
-        ensures carrier { content_of (employed self.old) number ≡ Some result }
-        ensures rest { self.new ≡ dismissing self.old number }
-    {
-        match self.find_multi(number) {
-            Some(found) => self.give_up_multi(found),
-            None => unreachable!(),
-        }
-    }
-
-    /// Gives up the multiblock carrier that was found: answers it.
+    /// Gives up the multiblock carrier that was found: answers it. If it owns it, it still does.
     pub(crate) fn give_up_multi(&mut self, found: Found) -> Mbc
         requires found { StandsAmong self.old.contents found }
         requires multi { IfSome (content_of self.old.contents found.carrier.key.number)
@@ -606,7 +583,7 @@ impl Instance {
     }
 
     /// Gives up a singleblock carrier whose block is gone: answers it. It still owns it.
-    pub fn give_up_single(&mut self, number: u32) -> Sbc
+    pub(crate) fn give_up_single(&mut self, number: u32) -> Sbc
         requires there { IsSome (content_of self.old.singles number) }
         requires gone { IfSome (content_of self.old.singles number) (λ c. c.blocks ≡ []) }
         ensures carrier { content_of (employed self.old) number ≡ Some result }

@@ -207,7 +207,6 @@ impl Trial {
         let vacant = self.instance.release(spot);
         if vacant {
             self.instance.dismiss(spot.carrier);
-            assert!(rt; self.instance.owns(spot.carrier));
             self.instance.disown(spot.carrier);
         }
         yes_or_no(alloc, vacant)
@@ -843,10 +842,9 @@ fn fill(rt: &impl Abort, instance: &mut Instance) {
 fn a_carrier_of_another_instance_comes_and_goes(rt: HostRuntime) -> Result<(), Fail> {
     let mut instance = Instance::new(rt.alloc(), MIGRATING, 2, 128, 100)?;
     instance.adopt(Mbc::new(rt.alloc(), FOREIGN, 1, Inner::Bf)?);
-    assert!(rt; !instance.owns(1));
-    let carrier = instance.give_up(1);
-    assert!(rt; !instance.employs(1));
-    instance.adopt(carrier);
+    let held = instance.hand_out(1);
+    assert!(rt; !held.is_single() && !instance.employs(1));
+    instance.adopt(held.into_multi());
     fill(&rt, &mut instance);
     Ok(())
 }
@@ -862,7 +860,8 @@ fn a_singleblock_carrier_without_its_block_is_given_up(rt: HostRuntime) -> Resul
         ..
     } = instance.create_single(SINGLE, 600, 1);
     assert!(rt; instance.release(Spot { carrier, offset }));
-    let single = instance.give_up_single(1025);
-    assert!(rt; single.number() == 1025 && instance.owns(1025) && !instance.employs(1025));
+    let held = instance.hand_out(1025);
+    assert!(rt; held.is_single() && held.number() == 1025 && !instance.employs(1025));
+    instance.disown(1025);
     Ok(())
 }
