@@ -82,11 +82,11 @@ module _ (c : Config) (t : Trace) (id : TableId) (i : ℕ) where
       → f.pass.seat.table_id ≡ id → f.scheduler.number ≡ w.scheduler.number
       → f.pass.seat.me.0.config ≡ w.pass.seat.me.0.config
       → f.pass.seat.me.0.trace ≡ w.pass.seat.me.0.trace
-      → (IsFalse f.memory → (acting f.pass.seat.me.0).number ≡ f.scheduler.number)
-      → (IsFalse f.memory → actor_in f.pass.seat.me.0 ≡ actor_of f.scheduler)
+      → (IsFalse f.out_of_memory → (acting f.pass.seat.me.0).number ≡ f.scheduler.number)
+      → (IsFalse f.out_of_memory → actor_in f.pass.seat.me.0 ≡ actor_of f.scheduler)
       → f.scheduler.trace ≡ w.scheduler.trace
-      → (IsFalse f.memory → IsCounted f.pass.seat.me.0 f.scheduler)
-      → (IsFalse f.memory → rests f.scheduler ≡ true)
+      → (IsFalse f.out_of_memory → IsCounted f.pass.seat.me.0 f.scheduler)
+      → (IsFalse f.out_of_memory → rests f.scheduler ≡ true)
       → IsAtRest c t id i f
   worker-ended w is f seated number config trace named actor theirs counted rest = record {
     last = λ none. record {
@@ -107,7 +107,7 @@ module _ (c : Config) (t : Trace) (id : TableId) (i : ℕ) where
   -- a worker that takes no more steps, if it had memory
   pub is-at_rest : (w : Working) → AtWork c t id i w → (memory : Bool)
       → (memory ≡ false → IsThrough w) → (f : Finished) → f.scheduler ≡ w.scheduler
-      → f.pass ≡ w.shared.pass → f.memory ≡ memory → IsAtRest c t id i f
+      → f.pass ≡ w.shared.pass → f.out_of_memory ≡ memory → IsAtRest c t id i f
   is-at_rest w at memory through f scheduler pass same = record {
     last = λ none.
         let ready = at.ready (through (sym same ∙ none)).0 in

@@ -39,8 +39,8 @@ module _ (c : Config) (t : Trace) where
 
   -- scheduler i has ended or is stopped, if it had memory
   pub record IsAtRest (id : TableId) (i : ℕ) (f : Finished) : Type 0 where
-    pub last : IsFalse f.memory → IsLast c t id i f
-    pub rest : IsFalse f.memory → rests f.scheduler ≡ true
+    pub last : IsFalse f.out_of_memory → IsLast c t id i f
+    pub rest : IsFalse f.out_of_memory → rests f.scheduler ≡ true
 
   -- what is printed is that of the run after some steps, in whatever order of the schedulers, of
   -- each up to its stop, after which all have ended or are stopped

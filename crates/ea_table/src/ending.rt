@@ -63,7 +63,7 @@ fn take_in<'t>(
         let Finished {
             scheduler,
             pass,
-            memory: _,
+            out_of_memory: _,
         } = other;
         let Pass {
             seat: theirs,
@@ -237,7 +237,7 @@ pub fn gather<'t>(
     let Finished {
         scheduler,
         pass,
-        memory: _,
+        out_of_memory: _,
     } = last;
     let Taken {
         seat,

@@ -106,9 +106,9 @@ fn run_workers<'t, R: Threads + Sync, G: Gate + Sync>(
 
 /// Whether a scheduler had no memory.
 fn lacks_memory(finished: &[Finished<'_>]) -> bool
-    ensures { result ≡ false → All (λ f. IsFalse f.memory) finished.now }
+    ensures { result ≡ false → All (λ f. IsFalse f.out_of_memory) finished.now }
 {
-    finished.iter().any(|f| f.memory)
+    finished.iter().any(|f| f.out_of_memory)
 }
 
 /// What is printed of the run of a trace, whose schedulers step no more: the board and the passes

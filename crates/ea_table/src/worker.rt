@@ -39,13 +39,13 @@ pub struct Worker<'t> {
     pub pass: Pass,
 }
 
-/// A scheduler that takes no more steps: it has ended or is stopped or, where `memory` is true, a
+/// A scheduler that takes no more steps: it has ended or is stopped or, where `out_of_memory` is true, a
 /// step had no memory.
 #[derive(Drop)]
 pub struct Finished<'t> {
     pub scheduler: Scheduler<'t>,
     pub pass: Pass,
-    pub memory: bool,
+    pub out_of_memory: bool,
 }
 
 /// A scheduler at work at a table, with its pass. It may pause after each operation.
@@ -78,19 +78,19 @@ impl<'t> Worker<'t> {
             × (result.scheduler.trace ≡ self.entry.scheduler.trace) }
         ensures run { (result.pass.seat.me.0.config ≡ self.entry.pass.seat.me.0.config)
             × (result.pass.seat.me.0.trace ≡ self.entry.pass.seat.me.0.trace) }
-        ensures memory { result.memory ≡ result.scheduler.failed }
-        ensures number { IsFalse result.memory
+        ensures memory { result.out_of_memory ≡ result.scheduler.failed }
+        ensures number { IsFalse result.out_of_memory
             → (acting result.pass.seat.me.0).number ≡ result.scheduler.number }
-        ensures actor { IsFalse result.memory
+        ensures actor { IsFalse result.out_of_memory
             → actor_in result.pass.seat.me.0 ≡ actor_of result.scheduler }
-        ensures counted { IsFalse result.memory → IsCounted result.pass.seat.me.0 result.scheduler }
-        ensures rests { IsFalse result.memory → rests result.scheduler ≡ true }
+        ensures counted { IsFalse result.out_of_memory → IsCounted result.pass.seat.me.0 result.scheduler }
+        ensures rests { IsFalse result.out_of_memory → rests result.scheduler ≡ true }
     {
         let Worker { scheduler, pass } = self;
         let shared = TableShared::new(board, pass);
         let mut working = Working { scheduler, shared };
-        let memory = working.run_out(alloc, gate).is_err();
-        working.finish(memory)
+        let out_of_memory = working.run_out(alloc, gate).is_err();
+        working.finish(out_of_memory)
     }
 
     /// Sits down at the table, before the first step.
@@ -168,13 +168,13 @@ impl<'a, 'b, 't> Working<'a, 'b, 't> {
         Ok(())
     }
 
-    /// The worker when it takes no more steps; `memory` says whether one had none.
-    pub fn finish(self, memory: bool) -> Finished<'t>
+    /// The worker when it takes no more steps; `out_of_memory` says whether one had none.
+    pub fn finish(self, out_of_memory: bool) -> Finished<'t>
         requires works { IsAtWork self }
-        requires through { memory ≡ false → IsThrough self }
+        requires through { out_of_memory ≡ false → IsThrough self }
         ensures scheduler { result.scheduler ≡ self.entry.scheduler }
         ensures pass { result.pass ≡ self.entry.shared.pass }
-        ensures memory { result.memory ≡ memory }
+        ensures memory { result.out_of_memory ≡ out_of_memory }
         ensures rest { (c : _) (t : _) (id : _) (i : _) → AtWork c t id i self.entry
             → IsAtRest c t id i result }
     {
@@ -182,7 +182,7 @@ impl<'a, 'b, 't> Working<'a, 'b, 't> {
         Finished {
             scheduler,
             pass: shared.into_pass(),
-            memory,
+            out_of_memory,
         }
     }
 }

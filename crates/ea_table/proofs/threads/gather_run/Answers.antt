@@ -12,7 +12,7 @@ pub gather-requires-clause-each : goal.gather-requires-clause-each
 gather-requires-clause-each c = λ k d less.
     let id = c.args.board.table.shared.table_id in
     let had = subst (λ (xs : List Finished). (j : ℕ) (x : Finished) → j < length xs
-    → IsFalse (slice_index_or xs j x).memory) c.deref.ensures.value
+    → IsFalse (slice_index_or xs j x).out_of_memory) c.deref.ensures.value
     (c.lacks_memory.ensures c.if-lacks_memory.false) k d
     (omega (arith, less, c.requires.all)) in
     subst (λ (xs : List Finished). IsLast c.args.config c.args.trace.now id (k + 1)
@@ -25,7 +25,7 @@ returns c =
     (λ o is. of-run c.args.config c.args.trace.now c.args.finished.items c.requires.all
     (λ k d less. (c.requires.each k d less).rest
     (subst (λ (fs : List Finished). (j : ℕ) (x : Finished) → j < length fs
-    → IsFalse (slice_index_or fs j x).memory) c.deref.ensures.value
+    → IsFalse (slice_index_or fs j x).out_of_memory) c.deref.ensures.value
     (c.lacks_memory.ensures c.if-lacks_memory.false) k d
     (omega (arith, less, c.requires.all)))) o is)
     (subst (λ fs. IfOk c.gather.result (Ends fs)) c.from_vec.ensures c.gather.ensures)
