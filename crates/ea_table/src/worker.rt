@@ -39,8 +39,8 @@ pub struct Worker<'t> {
     pub pass: Pass,
 }
 
-/// A scheduler that takes no more steps: it has ended or is stopped or, where `out_of_memory` is true, a
-/// step had no memory.
+/// A scheduler that takes no more steps: it has ended or is stopped or, where `out_of_memory` is
+/// true, a step had no memory.
 #[derive(Drop)]
 pub struct Finished<'t> {
     pub scheduler: Scheduler<'t>,
@@ -83,7 +83,8 @@ impl<'t> Worker<'t> {
             → (acting result.pass.seat.me.0).number ≡ result.scheduler.number }
         ensures actor { IsFalse result.out_of_memory
             → actor_in result.pass.seat.me.0 ≡ actor_of result.scheduler }
-        ensures counted { IsFalse result.out_of_memory → IsCounted result.pass.seat.me.0 result.scheduler }
+        ensures counted { IsFalse result.out_of_memory
+            → IsCounted result.pass.seat.me.0 result.scheduler }
         ensures rests { IsFalse result.out_of_memory → rests result.scheduler ≡ true }
     {
         let Worker { scheduler, pass } = self;
