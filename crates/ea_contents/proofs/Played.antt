@@ -39,8 +39,8 @@ use Rattle.ea_contents.proofs.Endings.{CompletesTo, LeadsTo, completes-first, co
 use Rattle.ea_contents.proofs.Endings.{completes-next, leads-first, leads-last, leads-next}
 use Rattle.ea_contents.proofs.Moments.{play-append, play-state}
 use Rattle.ea_contents.proofs.Places.{at-first}
-use Rattle.ea_contents.proofs.Plays.{has-is, has-trace, has-valid, is-has, no-stops}
-use Rattle.ea_contents.proofs.Plays.{place, rests-stays, turn-left, turns-are}
+use Rattle.ea_contents.proofs.Plays.{has-is, has-trace, has-valid, is-has, lists-are, no-stops}
+use Rattle.ea_contents.proofs.Plays.{outcome-same, place, rests-stays, turn-left, turns-are}
 
 abbrev pub Taken : List ℕ → Play → Play → Type 0
 Taken turns = HasPlayed (λ setup script m. turns)
@@ -340,6 +340,19 @@ first-stands c t xs p sections many rising shown stands = record {
         → IsRising (list_for ys i)
     rising-at ys zero all some upto = absurd (omega (arith, some))
     rising-at ys (suc i) all some upto = all i [] (omega (arith, upto))
+
+-- what is printed of a play
+pub outcome-told : (p : Play) (o : Outcome)
+    → SessionTells (λ setup turns lists. o ≡ outcome setup turns) p.session
+    → PlayTells (λ setup script m. IsOutcome o setup m.state) p
+outcome-told p o told c t ss m at turns is =
+    told c t at.taken m.lists at.session
+    ∙ outcome-same (setup_of c t) (no-stops c t ss m p at) at.taken turns (sym at.state ∙ is)
+
+pub shown-told : (p : Play) → PlayTells (λ setup script m.
+    map (λ (s : Items AccessEntry). s.items) p.shown.items
+    ≡ map m.shown (range_with_len 1 setup.schedulers)) p
+shown-told p c t ss m at = lists-are p.shown.items m.shown c.schedulers at.each at.shown
 
 -- the whole run
 module _ (c : Config) (t : Trace) (ss : List (List Placed)) (p q r : Play) (schedule : List Turns)

@@ -90,12 +90,31 @@ ranged h low (x ∷ xs) each =
     next : (low k : ℕ) → low + suc k ≡ low + 1 + k
     next low k = omega arith
 
+-- all of them, in order
+pub lists-are : {A : Type 0} (xs : List (Items A)) (h : ℕ → List A) (n : ℕ) → length xs ≡ n
+    → ((i : ℕ) → IsScheduler n i → list_for (map (λ (s : Items A). s.items) xs) i ≡ h i)
+    → map (λ (s : Items A). s.items) xs ≡ map h (range_with_len 1 n)
+lists-are xs h n many each =
+    let all = length-map xs (λ (s : Items _). s.items) in
+    ranged h 1 (map (λ (s : Items _). s.items) xs)
+    (λ k below. each (suc k) (omega arith, omega (arith, below, all, many)) ∙ ap h (next k))
+    ∙ ap (λ j. map h (range_with_len 1 j)) (all ∙ many)
+  where
+    next : (k : ℕ) → suc k ≡ 1 + k
+    next k = omega arith
+
 -- where no scheduler stops, what is printed hangs on the state alone
 stop-same : (e : Setup) (w : State) (none : (i : ℕ) → e.stops i ≡ None) (xs ys : List ℕ)
     → stop_of e w xs ≡ stop_of e w ys
 stop-same e w none xs ys = fun_ext (λ i.
     ap (λ o. stop_at (w.actors i).stage o (less o (count_of i xs))) (none i)
     ∙ sym (ap (λ o. stop_at (w.actors i).stage o (less o (count_of i ys))) (none i)))
+
+pub outcome-same : (e : Setup) → ((i : ℕ) → e.stops i ≡ None) → (xs ys : List ℕ)
+    → run e xs ≡ run e ys → outcome e xs ≡ outcome e ys
+outcome-same e none xs ys same =
+    ap (outcome_with e (run e xs)) (stop-same e (run e xs) none xs ys)
+    ∙ ap (λ w. outcome_with e w (stop_of e w ys)) same
 
 got : {A : Type 0} (P : Option A → Type 0) (xs : List A) (i : ℕ) → i < length xs
     → ((d : A) → P (Some (get_or xs i d))) → P (slice_get xs i)
@@ -147,6 +166,12 @@ module _ (c : Config) (t : Trace) (ss : List (List Placed)) (m : Moment) (p : Pl
     pub next-is : first_of (waiting e script m i)
         ≡ next_at (done m.state i) (drop (length (m.shown i)) (list_for ss i))
     next-is = first-is (list_for ss i) (length (m.shown i)) (done m.state i) (m.past i) place
+
+    pub in-sections : i - 1 < length p.sections.now
+    in-sections = omega (arith, mine.0, mine.1, at.many)
+
+    pub in-shown : i - 1 < length p.shown.items
+    in-shown = omega (arith, mine.0, mine.1, at.each)
 
     pub section-is : (d : Items Placed) → (get_or p.sections.now (i - 1) d).items ≡ list_for ss i
     section-is d = sym (list-at p.sections.now i d mine.0 (omega (arith, mine.1, at.many)))

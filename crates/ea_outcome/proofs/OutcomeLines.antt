@@ -49,3 +49,18 @@ module _ (m : Bool) (places : ℕ → CarrierAt) (ss : List Scheduler) where
       ∙ ap (λ ls. first_lines m places ss n ++ ls)
       (sym (if-line (carrier_of m places ss (n + 1)) l is line some))
       ∙ sym (next-lines n)
+
+  -- none is
+  pub lines-same : (n : ℕ) (l : Option CarrierLine) → l ≡ line_at (n + 1) → l ≡ None
+      → (lines : List CarrierLine) → lines ≡ first_lines m places ss n
+      → lines ≡ first_lines m places ss (n + 1)
+  lines-same n l is none lines are =
+      are
+      ∙ sym (append-nil (first_lines m places ss n))
+      ∙ ap (λ ls. first_lines m places ss n ++ ls)
+      (sym (if-none (carrier_of m places ss (n + 1)) l is none))
+      ∙ sym (next-lines n)
+
+pub no-line : (o : Option CarrierLine) → ((line : CarrierLine) → o ≡ Some line → ⊥) → o ≡ None
+no-line None not = refl
+no-line (Some line) not = absurd (not line refl)

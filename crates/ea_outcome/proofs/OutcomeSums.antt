@@ -150,6 +150,10 @@ few-listed g (x ∷ xs) = omega (
   one None = omega arith
   one (Some p) = omega arith
 
+all-true : (n most : ℕ) (b : Bool) → 1 ≤ n → n ≤ most → b ≡ true
+    → (nat_le 1 n && (nat_le n most && b)) ≡ true
+all-true n most b some upto is = grind (arith, some, upto, is)
+
 module _ (c : Config) (t : Trace) (valid : IsValidConfig c) (made : IsValidTrace c.schedulers t)
     (m : Bool) (mode : m ≡ migration (setup_of c t)) (ss : List Scheduler)
     (places : ℕ → CarrierAt) (given : List Named) (turns : List ℕ)
@@ -173,6 +177,14 @@ module _ (c : Config) (t : Trace) (valid : IsValidConfig c) (made : IsValidTrace
     ap length stand.actors,
     length-map-range_with_len w.actors 1 c.schedulers,
   )
+
+  -- the names that are given
+  pub are-given : AreGiven t.greatest given
+  are-given = subst (AreGiven t.greatest) (sym stand.given)
+      (record {
+        rising = rule.present.given;
+        within = given-range c t valid made w (turns, refl);
+      })
 
   -- one of the schedulers is as in the state
   pub scheduler-is : (j : ℕ) (d : Scheduler) → j < length ss
@@ -276,6 +288,14 @@ module _ (c : Config) (t : Trace) (valid : IsValidConfig c) (made : IsValidTrace
       ∙ first-listed (carrier_of m places ss p.carrier))
       ∙ blocks-in p.offset (carrier_of m places ss p.carrier)
 
+  printed-has : (p : Spot) → IsPrinted e w k p → HasBlock m places ss p
+  printed-has p is =
+      all-true p.carrier (NUMBERS * length ss) (is_some (block_by m places ss p)) is.number.0
+      (omega (arith, is.number.1, many-schedulers))
+      (subst IsSome (block-is p is.number)
+      (subst (λ o. IsSome (option_and_then (λ (x : Content). block_at x.blocks p.offset) o))
+      (sym (present-found e w k p.carrier is.number ∙ is.there)) is.block))
+
   -- what holds of the names that each scheduler holds in the state
   each-held : (P : List Named → Type 0)
       → ((i : ℕ) → is_scheduler e i ≡ true → P (w.actors i).held)
@@ -284,6 +304,20 @@ module _ (c : Config) (t : Trace) (valid : IsValidConfig c) (made : IsValidTrace
       subst (λ (a : Actor). P a.held) (sym (scheduler-is j d within))
       (each (1 + j) (number-scheduler e (1 + j)
       (omega arith, omega (arith, within, many-schedulers))))
+
+  have-blocks : (names : List Named) → All (λ (h : Named). IsPrinted e w k h.spot) names
+      → HaveBlocks m places ss names
+  have-blocks names are = All-weaker (λ (h : Named). IsPrinted e w k h.spot)
+      (λ (h : Named). HasBlock m places ss h.spot) (λ h is. printed-has h.spot is) names are
+
+  -- the blocks of held and of given names are there
+  pub are-live : AreLive m places ss given
+  are-live = record {
+    held = each-held (HaveBlocks m places ss)
+        (λ i is. have-blocks (w.actors i).held (held-printed e w k i (scheduler-seat e i is)));
+    given = subst (HaveBlocks m places ss) (sym stand.given)
+        (have-blocks w.shared.given (given-printed e w k));
+  }
 
   units-are : (names : List Named) → All (λ (h : Named). IsPrinted e w k h.spot) names
       → of_names e w k names ≡ units_named m places ss names
@@ -383,6 +417,14 @@ module _ (c : Config) (t : Trace) (valid : IsValidConfig c) (made : IsValidTrace
       valid.schedulers.1,
     )
 
+    pub have-parts : HaveParts (first_lines m places ss (greatest_number e)) live
+    have-parts = subst (λ ls. HaveParts ls live) (sym lines-printed)
+        (record {
+          among = omega (arith, sums-are.1, live-is, is);
+          rest = omega (arith, sums-are.0, sums-are.2, many-lines);
+          few = few-lines;
+        })
+
     totals-printed : totals_by lines live ≡ totals
     totals-printed = same_totals _ _ _ _ _ _ _ _ _ _ _ _
         many-lines
@@ -434,3 +476,13 @@ module _ (c : Config) (t : Trace) (valid : IsValidConfig c) (made : IsValidTrace
     first-lines = are
         ∙ ap (λ xs. first_lines m places xs (NUMBERS * c.schedulers)) same
         ∙ ap (first_lines m places ss) (all-numbers c.schedulers)
+
+    pub their-parts : HaveParts theirs live
+    their-parts = subst (λ xs. HaveParts xs live) (sym first-lines) (have-parts live is)
+
+    pub outcome-from : (o : Outcome)
+        → map (λ log. log.items) o.logs.items ≡ map (λ s. s.log.items ++ stop_line s) ss
+        → o.carriers.items ≡ theirs → o.totals ≡ totals_by theirs live
+        → plain_outcome o ≡ outcome e turns
+    outcome-from o logs carriers sums = outcome-is live is o logs (carriers ∙ first-lines)
+        (sums ∙ ap (λ xs. totals_by xs live) (sym carriers))

@@ -97,6 +97,16 @@ module _ (n g : ℕ) (ws : List ℕ) (xs : List Slot) where
       by false q = sym (has.beyond number (λ is.
           let never : true ≡ false = sym (both-true number (NUMBERS * n) is.0 is.1) ∙ q in cc))
 
+    -- so it is so for what is read, too
+    pub owners-read : (number : ℕ) → IsCarrier n number
+        → slice_index ws (owner_at n g number) ≡ place_code (places_in n g ws xs number)
+    owners-read number is =
+        has.words number is ∙ ap place_code (sym (places-read number))
+
+    pub shown-read : (number : ℕ) → IsShown (word_of (places_in n g ws xs number))
+    shown-read number =
+        subst (λ p. IsShown (word_of p)) (sym (places-read number)) (has.shown number)
+
 -- the word that is decoded is that of the carrier's place
 told-by : (w : OwnerWord) (slot : Slot) → owner_code w ≡ owner_code (word_of (place_by w slot))
     → w ≡ word_of (place_by w slot)

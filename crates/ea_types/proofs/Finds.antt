@@ -176,6 +176,33 @@ abbrev pub PrintedEach : List GivenRun → List Outcome → Type 0
 PrintedEach us os = (x : ℕ) (r : GivenRun) (o : Outcome) → x < length us
     → PrintedOf (get_or us x r) (get_or os x o)
 
+pub printed-more : (us : List GivenRun) (os new : List Outcome) (u : GivenRun) (o : Outcome)
+    → length os ≡ length us → PrintedEach us os → PrintedOf u o → new ≡ os ++ o ∷ []
+    → (length new ≡ length (us ++ u ∷ [])) × PrintedEach (us ++ u ∷ []) new
+printed-more us os new u o many each last is = (
+  ap length is ∙ omega (arith, length_push os o, length_push us u, many),
+  λ x r b below. subst (λ ps. PrintedOf (get_or (us ++ u ∷ []) x r) (get_or ps x b)) (sym is)
+      (elim (cases_lt x (length us)) [
+        | inl before ↦ subst (λ v. PrintedOf v (get_or (os ++ o ∷ []) x b))
+            (sym (get_or_append_left us (u ∷ []) r x before))
+            (subst (PrintedOf (get_or us x r))
+            (sym (get_or_append_left os (o ∷ []) b x (omega (arith, before, many))))
+            (each x r b before))
+        | inr past ↦
+            let here : x ≡ length us = omega (arith, below, past, length_push us u) in
+            subst (λ k. PrintedOf (get_or (us ++ u ∷ []) k r) (get_or (os ++ o ∷ []) k b))
+            (sym here)
+            (subst (λ v. PrintedOf v (get_or (os ++ o ∷ []) (length us) b))
+            (sym (get_or-append_right us (u ∷ []) (length us) (length us) r refl (omega arith)
+            ∙ ap (λ k. get_or (u ∷ []) k r) (none (length us))))
+            (subst (PrintedOf u)
+            (sym (get_or-append_right os (o ∷ []) (length us) (length us) b many (omega arith)
+            ∙ ap (λ k. get_or (o ∷ []) k b) (none (length us)))) last))
+      ]),
+) where
+  none : (i : ℕ) → i - i ≡ 0
+  none i = omega arith
+
 -- they are what is printed of each type after its own turns
 pub printed-all : (c : Config) (other : Trace) (traces : List Trace) (parts : List (List ℕ))
     (turns : List ℕ) (r : TypedRun) → StandsAfter c other traces parts turns r

@@ -230,6 +230,19 @@ same-text (x ∷ xs) (o ∷ os) =
     ap (λ a. a ++ parts_text xs (map plain_outcome os)) (same-part x o)
     ∙ ap (λ b. part_text x o ++ b) (same-text xs os)
 
+-- there are no parts where there are no types, or no outcomes
+
+pub no-letters : (letters : List Letter) (os : List Outcome) → length letters ≡ 0
+    → parts_text letters os ≡ []
+no-letters [] os e = refl
+no-letters (x ∷ xs) os e = absurd (omega (arith, e))
+
+pub no-outcomes : (letters : List Letter) (os : List Outcome) → length os ≡ 0
+    → parts_text letters os ≡ []
+no-outcomes [] os e = refl
+no-outcomes (x ∷ xs) [] e = refl
+no-outcomes (x ∷ xs) (o ∷ os) e = absurd (omega (arith, e))
+
 -- an input that was read asks for what it was read as
 pub asked-read : (c : Config) (input : List ℕ) (i : TypedInput)
     → traces c input ≡ Ok (map plain i.traces.items)
