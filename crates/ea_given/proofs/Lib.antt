@@ -1,5 +1,4 @@
 pub mod Running
-pub mod Looking
 pub mod Ends
 pub mod GivenRuns
 pub mod Growing

@@ -3,13 +3,13 @@ use Rattle.std.proofs.lemmas.Int.{clamps}
 use Rattle.ea_given.proofs.Running.{stands-moves, stands-ready, turns-taken}
 use Rattle.ea_given.proofs.turns.take_some.Goals as goal
 
-pub step_upto-taken-requires-clause-ready : goal.step_upto-taken-requires-clause-ready
-step_upto-taken-requires-clause-ready c =
+pub step_upto-requires-clause-ready : goal.step_upto-requires-clause-ready
+step_upto-requires-clause-ready c =
     let (d, t, me, steps, w, shares, at) = c.requires.stands in
     λ going. stands-ready d t me steps c.args.scheduler.now w at c.args.shared.now shares
 
-pub step_upto-taken-requires-clause-migrates : goal.step_upto-taken-requires-clause-migrates
-step_upto-taken-requires-clause-migrates c =
+pub step_upto-requires-clause-migrates : goal.step_upto-requires-clause-migrates
+step_upto-requires-clause-migrates c =
     let (d, t, me, steps, w, shares, at) = c.requires.stands in
     stands-moves d t me steps c.args.scheduler.now w at c.args.shared.now shares
 
