@@ -10,7 +10,7 @@ use Rattle.ea_model.specs.declared.settings.Config.{Config}
 use Rattle.ea_model.specs.declared.settings.Settings.{Settings}
 use Rattle.ea_model.specs.declared.trace.Trace.{Trace}
 use Rattle.ea_model.specs.Instance.{first_number, owner_of}
-use Rattle.ea_model.specs.Settings.{settings_of}
+use Rattle.ea_model.specs.Settings.{lets_migrate, settings_of}
 use Rattle.ea_machine.specs.Machine.{first_place, is_main, place_by}
 use Rattle.ea_machine.specs.Owners.{Employed}
 use Rattle.ea_machine.specs.Setup.{Setup, migration, setup_of}
@@ -75,6 +75,10 @@ module _ (n g : ℕ) where
 main-asked : (acul mmbcs i n : ℕ) (b : Bool) → acul ≢ 0 → mmbcs ≢ 0 → 1 ≤ i → (nat_le i n && b)
     ≡ (nat_lt 0 acul && (nat_lt 0 i && nat_le i n && (nat_lt 0 mmbcs && b)))
 main-asked acul mmbcs i n b migrates some from = grind (arith, migrates, some, from)
+
+-- where carriers migrate there is a utilization
+pub some-acul : (s : Settings) (on : Bool) → on ≡ lets_migrate s → on ≡ true → s.acul ≢ 0
+some-acul s on is t q = let so : nat_lt 0 s.acul ≡ true = sym is ∙ t in grind (arith, so, q)
 
 main-place : (e : Setup) (b : Bool) (i : ℕ) → employed_if b i ≡ place_by e b i
 main-place e true i = refl

@@ -1,7 +1,7 @@
 use Rattle.std.proofs.Common.{◌≡◌, length, drop, sym, ap, ◌∙◌, subst}
 use Rattle.std.proofs.lemmas.List.{take_at}
 use Rattle.ea_table.specs.Start.{AreFirst}
-use Rattle.ea_table.proofs.MainWords.{all-mains}
+use Rattle.ea_table.proofs.MainWords.{all-mains, some-acul}
 use Rattle.ea_table.proofs.seats.first_words.Goals as goal
 
 pub returns : goal.returns
@@ -15,5 +15,6 @@ returns c =
     subst (AreFirst c.args.config c.args.trace.now)
     (sym (take_at new (drop (length new) words.items) words.len many))
     (all-mains c.args.config c.args.trace.now new
-    (λ q. c.if-settings-eq0.false (ap (λ s. s.acul) same ∙ q))
-    (λ q. c.if-settings-eq0-2.false (ap (λ s. s.mmbcs) same ∙ q)) has)
+    (λ q. some-acul c.of-settings.result c.lets_migrate.result c.lets_migrate.ensures
+    c.if-not-lets_migrate.false (ap (λ s. s.acul) same ∙ q))
+    (λ q. c.if-settings-eq0.false (ap (λ s. s.mmbcs) same ∙ q)) has)
