@@ -10,26 +10,26 @@ use Rattle.ea_table.specs.Ruling.{caller_in}
 use Rattle.ea_table.proofs.WorkerSteps.{Steps, just-one, step-counted, step-enters, step-less}
 use Rattle.ea_table.proofs.worker.Working.step.Goals as goal
 
-pub step_upto-taken-requires-clause-schedulers : goal.step_upto-taken-requires-clause-schedulers
-step_upto-taken-requires-clause-schedulers g c =
+pub step_upto-requires-clause-schedulers : goal.step_upto-requires-clause-schedulers
+step_upto-requires-clause-schedulers g c =
     let at = c.requires.works.4 in
     ap (λ d. d.schedulers) (at.known_config ∙ sym at.config)
 
-pub step_upto-taken-requires-clause-greatest : goal.step_upto-taken-requires-clause-greatest
-step_upto-taken-requires-clause-greatest g c =
+pub step_upto-requires-clause-greatest : goal.step_upto-requires-clause-greatest
+step_upto-requires-clause-greatest g c =
     let at = c.requires.works.4 in
     ap (λ t. t.greatest) (at.known_trace ∙ sym at.trace)
 
-pub step_upto-taken-requires-clause-migrates : goal.step_upto-taken-requires-clause-migrates
-step_upto-taken-requires-clause-migrates g c =
+pub step_upto-requires-clause-migrates : goal.step_upto-requires-clause-migrates
+step_upto-requires-clause-migrates g c =
     let at = c.requires.works.4 in
     let w = c.args.self.now in
     ap (λ d. migration (setup_of d w.shared.pass.seat.me.0.trace))
     (at.known_config ∙ sym at.config)
     ∙ ap (λ t. migration (setup_of w.scheduler.config t)) (at.known_trace ∙ sym at.trace)
 
-pub step_upto-taken-requires-clause-ready : goal.step_upto-taken-requires-clause-ready
-step_upto-taken-requires-clause-ready g c = c.requires.works.4.ready
+pub step_upto-requires-clause-ready : goal.step_upto-requires-clause-ready
+step_upto-requires-clause-ready g c = c.requires.works.4.ready
 
 pub returns-clause-less : goal.returns-clause-less
 returns-clause-less g c = λ went.
