@@ -21,7 +21,7 @@ ghost use Rattle.ea_model.specs.Instance.{is_alone, multis, unused_from, plan, c
 ghost use Rattle.ea_model.specs.Instance.{creating, creating_single, chosen_spot, employed};
 ghost use Rattle.ea_model.specs.Instance.{single_place, place_at, releasing_at, own_of, resized_to};
 ghost use Rattle.ea_model.specs.Instance.{resizing_at, decision_at, content_of, block_in};
-ghost use Rattle.ea_model.specs.Instance.{has_content, has_vacant, own_at, segments};
+ghost use Rattle.ea_model.specs.Instance.{has_content, has_vacant, is_used, own_at, segments};
 ghost use Rattle.ea_model.specs.Instance.{least_pages};
 ghost use Rattle.ea_model.specs.Instance as instances;
 ghost use Rattle.ea_instance.specs.Answers.{placing_if};
@@ -199,6 +199,13 @@ impl Instance {
         ensures { result ≡ has_content carrier (employed self.now) }
     {
         self.find_multi(carrier).is_some() || item_of(carrier, self.singles.as_slice()).is_some()
+    }
+
+    /// Whether it owns the carrier, whoever employs it.
+    pub fn owns(&self, carrier: u32) -> bool
+        ensures { result ≡ is_used carrier self.now.own }
+    {
+        self.own.has(carrier)
     }
 
     /// Where the carrier stands among the main and multiblock carriers that it employs, if it is

@@ -7,7 +7,7 @@ ghost use Rattle.ea_model.specs.Instance.{with_own, without_own};
 ghost use Rattle.ea_model.specs.Keyed.{changed_at};
 ghost use Rattle.ea_model.specs.Region.{lowest_run, runs};
 
-use ea_model::keyed::{enter_within, index_of, take_out};
+use ea_model::keyed::{enter_within, index_of, item_of, take_out};
 use ea_model::{CarrierPlan, NUMBERS, OutOfMemory, OwnCarrier};
 use ea_space::Region;
 use std::alloc::Global;
@@ -75,6 +75,13 @@ impl OwnCarriers {
             }
         }
         Some(number)
+    }
+
+    /// Whether the carrier with the number is one of them.
+    pub fn has(&self, number: u32) -> bool
+        ensures { result ≡ is_used number self.now.carriers }
+    {
+        item_of(number, &self.list).is_some()
     }
 
     /// Where the lowest free run with that many pages begins.

@@ -257,6 +257,7 @@ impl Sides {
         assert_eq!(rt; vacant, self.carriers[index].is_empty_multi());
         if vacant {
             self.instance.dismiss(spot.carrier);
+            assert!(rt; self.instance.owns(spot.carrier));
             self.instance.disown(spot.carrier);
             let _gone = self.carriers.remove(index);
         }

@@ -207,6 +207,7 @@ impl Trial {
         let vacant = self.instance.release(spot);
         if vacant {
             self.instance.dismiss(spot.carrier);
+            assert!(rt; self.instance.owns(spot.carrier));
             self.instance.disown(spot.carrier);
         }
         yes_or_no(alloc, vacant)
@@ -861,7 +862,7 @@ fn a_singleblock_carrier_without_its_block_is_given_up(rt: HostRuntime) -> Resul
     } = instance.create_single(SINGLE, 600, 1);
     assert!(rt; instance.release(Spot { carrier, offset }));
     let held = instance.hand_out(1025);
-    assert!(rt; held.is_single() && held.number() == 1025 && !instance.employs(1025));
-    instance.disown(1025);
+    assert!(rt; held.is_single() && held.number() == 1025);
+    assert!(rt; instance.owns(1025) && !instance.employs(1025));
     Ok(())
 }
