@@ -27,7 +27,7 @@ use Rattle.ea_sound.proofs.Totals.{put-here, put-other}
 use Rattle.ea_sound.proofs.TurnLists.{run-snoc, step-other}
 use Rattle.ea_sched.specs.Acting.{is_ended}
 use Rattle.ea_given.specs.Running.{StandsAt}
-use Rattle.ea_given.proofs.Growing.{cut-none}
+use Rattle.ea_sound.proofs.Stopping.{cut-none}
 use Rattle.ea_given.proofs.Running.{ended-is, work-is}
 use Rattle.ea_contents.specs.declared.access.Access.{Access}
 use Rattle.ea_contents.specs.declared.access.AccessEntry.{AccessEntry}

@@ -29,7 +29,7 @@ use Rattle.ea_outcome.specs.Extents.{range_if, range_of}
 use Rattle.ea_outcome.specs.declared.extents.Extent.{Extent}
 use Rattle.ea_given.specs.Layouts.{is_scheduled}
 use Rattle.ea_given.specs.Runs.{IsRun, StandsAfter, done_after, holds_after}
-use Rattle.ea_given.proofs.Growing.{cut-none}
+use Rattle.ea_sound.proofs.Stopping.{cut-none}
 use Rattle.ea_sched.proofs.Texts.{text-is}
 use Rattle.ea_contents.specs.Agreeing.{Agree, IsWhole}
 use Rattle.ea_contents.specs.declared.access.Making.{Making}

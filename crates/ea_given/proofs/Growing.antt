@@ -7,20 +7,11 @@ use Rattle.std.proofs.lemmas.List.{length_push, replicate-append-replicate}
 use Rattle.ea_machine.specs.Machine.{run, run_on, start, step}
 use Rattle.ea_machine.specs.Setup.{Setup}
 use Rattle.ea_machine.specs.State.{State}
-use Rattle.ea_machine.specs.Stops.{cut, put_left, up_to}
 use Rattle.ea_sound.specs.Entries.{EntersOne}
 use Rattle.ea_sound.specs.Turns.{log_after}
 use Rattle.ea_sound.proofs.TurnLists.{run-append, run-snoc, step-ended}
 use Rattle.ea_sched.specs.Acting.{is_ended}
 use Rattle.ea_given.proofs.Running.{ended-is}
-
--- where nobody stops, all turns are taken
-pub cut-none : (left : ℕ → Option ℕ) → ((i : ℕ) → left i ≡ None) → (xs : List ℕ)
-    → cut left xs ≡ xs
-cut-none left none [] = refl
-cut-none left none (x ∷ xs) =
-    ap (λ o. up_to o (x ∷ []) ++ cut (put_left o left x) xs) (none x)
-    ∙ ap (λ js. x ∷ js) (cut-none left none xs)
 
 -- a run in which a scheduler takes steps
 module _ (e : Setup) (enters : EntersOne e) (me : ℕ) where

@@ -18,6 +18,14 @@ use Rattle.ea_sound.specs.MachineLaws.{HeedsStops}
 use Rattle.ea_sound.proofs.Totals.{put-here, put-other}
 use Rattle.ea_sound.proofs.TurnLists.{run-snoc}
 
+-- where nobody stops, all turns are taken
+pub cut-none : (left : ℕ → Option ℕ) → ((i : ℕ) → left i ≡ None) → (xs : List ℕ)
+    → cut left xs ≡ xs
+cut-none left none [] = refl
+cut-none left none (x ∷ xs) =
+    ap (λ o. up_to o (x ∷ []) ++ cut (put_left o left x) xs) (none x)
+    ∙ ap (λ js. x ∷ js) (cut-none left none xs)
+
 -- counts of turns
 abbrev pub mine : ℕ → ℕ → ℕ
 mine s x = cond (x == s) 1 0
