@@ -18,5 +18,4 @@ pub mod Suiting
 pub mod Calling
 pub mod WalkSuiting
 pub mod NamesBrought
-pub mod RouteEnds
 pub mod LooksInRow

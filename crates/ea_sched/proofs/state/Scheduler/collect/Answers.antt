@@ -7,6 +7,7 @@ use Rattle.ea_sched.specs.Acting.{standing_at}
 use Rattle.ea_sched.proofs.CarrierCalling.{collect-carrier, collect-mine, collect-none, collect-own}
 use Rattle.ea_sched.proofs.CarrierCalling.{collect-returned, listed-once}
 use Rattle.ea_sched.proofs.InHand.{as-carrier, collects}
+use Rattle.ea_sched.proofs.StandsOn.{moves-on}
 use Rattle.ea_sched.proofs.state.Scheduler.collect.Goals as goal
 
 pub clear_returned-requires-clause-carrier : goal.clear_returned-requires-clause-carrier
@@ -51,3 +52,7 @@ returns-clause-row g c = record {
         lists = l.lists;
       }) c.remove.ensures.lists;
 }
+
+pub clear_returned-requires-clause-migrates : goal.clear_returned-requires-clause-migrates
+clear_returned-requires-clause-migrates g c =
+    moves-on c.args.self.now c.requires.starts (λ off. off)

@@ -1,82 +1,58 @@
-//! The rows of a release route.
-ghost use Rattle.std.specs.Prelude.{◌≡◌, ◌<◌, true, None, OnErr, OnOk};
+//! The rows of a release route, each with what it leaves of the route.
+ghost use Rattle.std.specs.Prelude.{◌≡◌, ◌<◌};
 ghost use Rattle.ea_model.specs.declared.units.TheConstants.{NUMBERS};
 ghost use Rattle.ea_model.specs.Content.{Content};
 ghost use Rattle.ea_model.specs.Instance as instances;
-ghost use Rattle.ea_machine.specs.declared.stages.Stage.{Stage};
-ghost use Rattle.ea_search.specs.Rooms.{count_of};
-ghost use Rattle.ea_machine.specs.declared.stages.Stage.TheVariants as stage;
 ghost use Rattle.ea_machine.specs.declared.stages.Route.TheVariants as route;
+ghost use Rattle.ea_machine.specs.declared.stages.Stage.{Stage};
 ghost use Rattle.ea_machine.specs.Releases as releases;
-ghost use Rattle.ea_machine.specs.Setup.{migration};
-ghost use Rattle.ea_sched.specs.Acting.{IsSame, setup_for, standing_at};
-ghost use Rattle.ea_sched.specs.Creations.{PlansAt};
-ghost use Rattle.ea_sched.specs.Steps.{DidRow, StartsRow};
-ghost use Rattle.ea_sched.specs.Turning.{CollectedRow, HasTurned, TurnedRow};
+ghost use Rattle.ea_sched.specs.Acting.{IsSame, standing_at};
+ghost use Rattle.ea_sched.specs.Routes.{StartsRoute, TurnedRow};
+ghost use Rattle.ea_search.specs.Rooms.{count_of};
 
-use crate::routes::first_gone;
+use crate::routes::{Turned, first_gone, forward};
 use crate::state::Scheduler;
 use ea_instance::Held;
-use ea_machine::{Gone, Named, Node, OwnerWord, Route, Stage, Why};
+use ea_machine::{Gone, Named, Node, OwnerWord, Route};
 use ea_mbc::Mbc;
-use ea_model::{OutOfMemory, owner_of};
+use ea_model::owner_of;
 use ea_shared::{Shared, Tried};
-use std::alloc::Global;
 
 impl<'t> Scheduler<'t> {
-    /// The block goes to the queue of the instance that the owner word of its carrier names.
-    fn forward(&mut self, hand: Named, present: OwnerWord, why: Why, gone: Gone) -> Option<Gone>
-        ensures turned { (at : _) → HasTurned why
-            (releases.forwarded hand gone (standing_at at self.old) present) result self.new }
-        ensures same { IsSame self.old self.new }
-    {
-        match present {
-            OwnerWord::Absent | OwnerWord::Returning { .. } => Some(gone),
-            OwnerWord::Employed { instance } => self.send_to(hand, instance, why, gone),
-            OwnerWord::Pooled { instance, .. } => self.send_to(hand, instance, why, gone),
-            OwnerWord::Busy { instance } => self.send_to(hand, instance, why, gone),
-        }
-    }
-
     /// A look at the owner word of the block's carrier.
     pub(crate) fn look<S: Shared<Content = Mbc>>(
         &mut self,
         shared: &mut S,
         hand: Named,
-        why: Why,
         gone: Gone,
-    ) -> Option<Gone>
-        requires starts { StartsRow (stage.Routed (route.Looking hand) why gone) self.old
+    ) -> Turned
+        requires starts { StartsRoute (route.Looking hand) gone self.old
             (S.schedulers shared.old) (S.greatest shared.old) (S.migrates shared.old)
             (S.shared shared.old) (S.caller shared.old) }
-        requires on { migration (setup_for self.old) ≡ true }
         ensures stays { S.stays shared.old shared.new }
         ensures same { IsSame self.old self.new }
-        ensures row { TurnedRow (route.Looking hand) why gone self.old self.new result
+        ensures row { TurnedRow (route.Looking hand) gone self.old self.new result
             (S.shared shared.old) (S.shared shared.new) (S.caller shared.old)
             (S.caller shared.new) }
     {
         let seen = shared.look(self.number, hand.spot.carrier);
-        self.looked(hand, seen, why, gone)
+        self.looked(hand, seen, gone)
     }
 
     /// A try to make the pooled carrier of the block busy: if it is won, the block is released in
     /// it.
     pub(crate) fn try_busy<S: Shared<Content = Mbc>>(
-        &mut self,
+        &self,
         shared: &mut S,
         hand: Named,
         seen: OwnerWord,
-        why: Why,
         gone: Gone,
-    ) -> Option<Gone>
-        requires starts { StartsRow (stage.Routed (route.Trying hand seen) why gone) self.old
+    ) -> Turned
+        requires starts { StartsRoute (route.Trying hand seen) gone self.now
             (S.schedulers shared.old) (S.greatest shared.old) (S.migrates shared.old)
             (S.shared shared.old) (S.caller shared.old) }
-        requires on { migration (setup_for self.old) ≡ true }
         ensures stays { S.stays shared.old shared.new }
-        ensures same { IsSame self.old self.new }
-        ensures row { TurnedRow (route.Trying hand seen) why gone self.old self.new result
+        ensures row { TurnedRow (route.Trying hand seen) gone self.now self.now result
             (S.shared shared.old) (S.shared shared.new) (S.caller shared.old)
             (S.caller shared.new) }
     {
@@ -84,12 +60,11 @@ impl<'t> Scheduler<'t> {
             Tried::Won { mut content } => {
                 content.release(hand.spot.offset);
                 let content = Held::multi(content);
-                let route = Route::Settling { content };
                 let gone = first_gone(gone, Gone::Here);
-                self.stage = Stage::Routed { route, why, gone };
-                None
+                let route = Some(Route::Settling { content });
+                Turned { route, gone }
             }
-            Tried::Lost { word } => self.forward(hand, word, why, gone),
+            Tried::Lost { word } => forward(hand, word, gone),
         }
     }
 
@@ -98,16 +73,14 @@ impl<'t> Scheduler<'t> {
         &mut self,
         shared: &mut S,
         content: Held,
-        why: Why,
         gone: Gone,
-    ) -> Option<Gone>
-        requires starts { StartsRow (stage.Routed (route.Settling content) why gone) self.old
+    ) -> Turned
+        requires starts { StartsRoute (route.Settling content) gone self.old
             (S.schedulers shared.old) (S.greatest shared.old) (S.migrates shared.old)
             (S.shared shared.old) (S.caller shared.old) }
-        requires on { migration (setup_for self.old) ≡ true }
         ensures stays { S.stays shared.old shared.new }
         ensures same { IsSame self.old self.new }
-        ensures row { TurnedRow (route.Settling content) why gone self.old self.new result
+        ensures row { TurnedRow (route.Settling content) gone self.old self.new result
             (S.shared shared.old) (S.shared shared.new) (S.caller shared.old)
             (S.caller shared.new) }
     {
@@ -115,13 +88,12 @@ impl<'t> Scheduler<'t> {
         if content.is_empty() {
             shared.settle_employed(self.number, number);
             self.lists.remove(number);
-            self.leave(content, why, gone);
-            return None;
+            return self.leave(content, gone);
         }
         let carrier = content.into_multi();
         let largest = carrier.largest();
         shared.settle_pooled(self.number, number, carrier, largest);
-        Some(gone)
+        Turned { route: None, gone }
     }
 
     /// A carrier was abandoned: an own one comes last in the pooled list.
@@ -142,16 +114,14 @@ impl<'t> Scheduler<'t> {
         &mut self,
         shared: &mut S,
         content: Held,
-        why: Why,
         gone: Gone,
-    ) -> Option<Gone>
-        requires starts { StartsRow (stage.Routed (route.Abandoning content) why gone) self.old
+    ) -> Turned
+        requires starts { StartsRoute (route.Abandoning content) gone self.old
             (S.schedulers shared.old) (S.greatest shared.old) (S.migrates shared.old)
             (S.shared shared.old) (S.caller shared.old) }
-        requires on { migration (setup_for self.old) ≡ true }
         ensures stays { S.stays shared.old shared.new }
         ensures same { IsSame self.old self.new }
-        ensures row { TurnedRow (route.Abandoning content) why gone self.old self.new result
+        ensures row { TurnedRow (route.Abandoning content) gone self.old self.new result
             (S.shared shared.old) (S.shared shared.new) (S.caller shared.old)
             (S.caller shared.new) }
     {
@@ -160,24 +130,21 @@ impl<'t> Scheduler<'t> {
         let largest = carrier.largest();
         shared.abandon(self.number, number, carrier, largest);
         self.list_abandoned(number);
-        Some(gone)
+        Turned { route: None, gone }
     }
 
     /// The empty carrier is sent home: its node goes to the queue of its owner.
     pub(crate) fn send_home<S: Shared<Content = Mbc>>(
-        &mut self,
+        &self,
         shared: &mut S,
         content: Held,
-        why: Why,
         gone: Gone,
-    )
-        requires starts { StartsRow (stage.Routed (route.Sending content) why gone) self.old
+    ) -> Turned
+        requires starts { StartsRoute (route.Sending content) gone self.now
             (S.schedulers shared.old) (S.greatest shared.old) (S.migrates shared.old)
             (S.shared shared.old) (S.caller shared.old) }
-        requires on { migration (setup_for self.old) ≡ true }
         ensures stays { S.stays shared.old shared.new }
-        ensures same { IsSame self.old self.new }
-        ensures row { TurnedRow (route.Sending content) why gone self.old self.new None
+        ensures row { TurnedRow (route.Sending content) gone self.now self.now result
             (S.shared shared.old) (S.shared shared.new) (S.caller shared.old)
             (S.caller shared.new) }
     {
@@ -185,8 +152,8 @@ impl<'t> Scheduler<'t> {
         let to = owner_of(number);
         shared.send_home(self.number, number, content.into_multi(), to);
         let node = Node::Carrier { number };
-        let route = Route::Pushing { node, to };
-        self.stage = Stage::Routed { route, why, gone };
+        let route = Some(Route::Pushing { node, to });
+        Turned { route, gone }
     }
 
     /// The empty carrier, which the scheduler owns, is cleared: its number and pages are free
@@ -195,16 +162,14 @@ impl<'t> Scheduler<'t> {
         &mut self,
         shared: &mut S,
         content: Held,
-        why: Why,
         gone: Gone,
-    ) -> Option<Gone>
-        requires starts { StartsRow (stage.Routed (route.Clearing content) why gone) self.old
+    ) -> Turned
+        requires starts { StartsRoute (route.Clearing content) gone self.old
             (S.schedulers shared.old) (S.greatest shared.old) (S.migrates shared.old)
             (S.shared shared.old) (S.caller shared.old) }
-        requires on { migration (setup_for self.old) ≡ true }
         ensures stays { S.stays shared.old shared.new }
         ensures same { IsSame self.old self.new }
-        ensures row { TurnedRow (route.Clearing content) why gone self.old self.new result
+        ensures row { TurnedRow (route.Clearing content) gone self.old self.new result
             (S.shared shared.old) (S.shared shared.new) (S.caller shared.old)
             (S.caller shared.new) }
     {
@@ -212,46 +177,47 @@ impl<'t> Scheduler<'t> {
         shared.clear_own(self.number, number);
         self.instance.disown(number);
         self.instance.discard(content);
-        Some(gone)
+        Turned { route: None, gone }
     }
 
-    /// A carrier of the scheduler's own that came home is cleared: its number and pages are free
-    /// again.
-    fn collect<S: Shared<Content = Mbc>>(&mut self, shared: &mut S, number: u32)
-        requires starts { StartsRow (stage.Collecting number) self.old
-            (S.schedulers shared.old) (S.greatest shared.old) (S.migrates shared.old)
-            (S.shared shared.old) (S.caller shared.old) }
-        requires on { migration (setup_for self.old) ≡ true }
-        ensures stays { S.stays shared.old shared.new }
-        ensures same { IsSame self.old self.new }
-        ensures row { CollectedRow number self.old self.new (S.shared shared.old)
-            (S.shared shared.new) (S.caller shared.old) (S.caller shared.new) }
-    {
-        let content = Held::multi(shared.clear_returned(self.number, number));
-        self.lists.remove(number);
-        self.instance.disown(number);
-        self.instance.discard(content);
-    }
-
-    /// A carrier that came home is collected, and the walk that brought it goes on.
-    pub(crate) fn receive<S: Shared<Content = Mbc>>(
-        &mut self,
-        alloc: Global,
+    /// The node of a block, or of a carrier that is sent home, is pushed to an instance's queue.
+    pub(crate) fn push<S: Shared<Content = Mbc>>(
+        &self,
         shared: &mut S,
-        number: u32,
-    ) -> Result<(), OutOfMemory>
-        requires starts { StartsRow (stage.Collecting number) self.old
+        node: Node,
+        to: u32,
+        gone: Gone,
+    ) -> Turned
+        requires starts { StartsRoute (route.Pushing node to) gone self.now
             (S.schedulers shared.old) (S.greatest shared.old) (S.migrates shared.old)
             (S.shared shared.old) (S.caller shared.old) }
         ensures stays { S.stays shared.old shared.new }
-        ensures same { IsSame self.old self.new }
-        ensures row { OnOk result (DidRow (stage.Collecting number) self.old self.new
+        ensures row { TurnedRow (route.Pushing node to) gone self.now self.now result
             (S.shared shared.old) (S.shared shared.new) (S.caller shared.old)
-            (S.caller shared.new)) }
-        ensures memory { OnErr result (PlansAt (stage.Collecting number) self.old
-            (S.shared shared.old) (S.caller shared.old)) }
+            (S.caller shared.new) }
     {
-        self.collect(shared, number);
-        self.end_walk(alloc)
+        shared.push(self.number, to, node);
+        let route = Some(Route::Linking { node, to });
+        Turned { route, gone }
+    }
+
+    /// The pushed node is linked to the older ones.
+    pub(crate) fn link<S: Shared<Content = Mbc>>(
+        &self,
+        shared: &mut S,
+        node: Node,
+        to: u32,
+        gone: Gone,
+    ) -> Turned
+        requires starts { StartsRoute (route.Linking node to) gone self.now
+            (S.schedulers shared.old) (S.greatest shared.old) (S.migrates shared.old)
+            (S.shared shared.old) (S.caller shared.old) }
+        ensures stays { S.stays shared.old shared.new }
+        ensures row { TurnedRow (route.Linking node to) gone self.now self.now result
+            (S.shared shared.old) (S.shared shared.new) (S.caller shared.old)
+            (S.caller shared.new) }
+    {
+        shared.link(self.number, to, node);
+        Turned { route: None, gone }
     }
 }
