@@ -2,7 +2,7 @@
 use Rattle.std.specs.Prelude.{◌≡◌, ℕ, ◌+◌, ◌*◌, ◌<◌, ◌≤◌, nat_le}
 use Rattle.std.specs.Prelude.{Option, get_or, length}
 use Rattle.std.specs.List.{range_with_len}
-use Rattle.std.specs.Prelude.{Bool, true, false, ◌&&◌, if◌then◌else◌, List, All, AllPairs, None}
+use Rattle.std.specs.Prelude.{Bool, true, false, ◌&&◌, List, All, AllPairs, None}
 use Rattle.std.specs.Prelude.{Some, map, slice_index, slice_index_or}
 use mathlib.Core.Option.{some}
 use lib.ListN.{get_elem?}
