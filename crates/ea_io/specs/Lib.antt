@@ -1,6 +1,5 @@
 pub mod Calls
 pub mod Counts
 pub mod Fronts
-pub mod Memory
 pub mod Standard
 pub mod Messages

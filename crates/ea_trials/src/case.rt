@@ -1,9 +1,10 @@
 //! What a run is given, and what it tells.
 ghost use Rattle.std.specs.Prelude.{◌≡◌, ◌≤◌, IfOk};
 
-use ea_io::{MemSink, MemSource, Sink, Source};
+use ea_io::{Sink, Source};
 use ea_model::{List, OutOfMemory};
 use ea_top::run;
+use ea_trials_io::{MemSink, MemSource};
 use std::alloc::Global;
 use std::thread::Threads;
 

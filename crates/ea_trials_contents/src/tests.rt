@@ -1,7 +1,7 @@
 //! Runs of the command.
 use ea_contents::run_contents;
-use ea_io::{MemSink, MemSource};
 use ea_model::{List, OutOfMemory};
+use ea_trials_io::{MemSink, MemSource};
 use std::alloc::Global;
 use std::test::Fail;
 

@@ -1,6 +1,6 @@
-use ea_io::{LengthSink, MemSink, PlainSource};
 use ea_model::{List, OutOfMemory};
 use ea_trials::{NotRun, run_words};
+use ea_trials_io::{LengthSink, MemSink, PlainSource};
 use std::alloc::Global;
 use std::test::Fail;
 use std::thread::Threads;

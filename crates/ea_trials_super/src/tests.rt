@@ -1,7 +1,7 @@
 //! Runs of the command.
-use ea_io::{MemSink, MemSource};
 use ea_model::{List, OutOfMemory};
 use ea_super::run_super;
+use ea_trials_io::{MemSink, MemSource};
 use std::alloc::Global;
 use std::sync::Wait;
 use std::test::Fail;

@@ -5,8 +5,8 @@ ghost use Rattle.std.specs.List.{list_any};
 ghost use Rattle.ea_io.specs.Calls.{Reads, Writes};
 ghost use Rattle.ea_io.specs.Counts.{next_count};
 
-use crate::ends::{Failed, Sink, Source};
 use crate::pieces::{copy_front, is_listed};
+use ea_io::{Failed, Sink, Source};
 use ea_model::{List, OutOfMemory};
 use std::alloc::Global;
 use std::marker::Model;
@@ -26,7 +26,7 @@ pub struct MemSource {
 
 impl Model for MemSource {
     ghost use Rattle.std.specs.Prelude.{◌≤◌, drop, length};
-    ghost use Rattle.ea_io.specs.Memory.{Giving};
+    ghost use Rattle.ea_trials_io.specs.Memory.{Giving};
 
     ghost Value = { Giving };
 
@@ -111,7 +111,7 @@ pub struct MemSink {
 
 impl Model for MemSink {
     ghost use Rattle.std.specs.Prelude.{◌≤◌, ◌+◌, vec_len, vec_capacity};
-    ghost use Rattle.ea_io.specs.Memory.{Taking};
+    ghost use Rattle.ea_trials_io.specs.Memory.{Taking};
 
     ghost Value = { Taking };
 

@@ -1,6 +1,7 @@
-use crate::{
-    LengthSink, MemSink, MemSource, PlainSource, ReadAllFault, Sink, Source, StdSink, StdSource,
-    put_number, put_text, read_all, write_all, write_texts,
+use crate::{LengthSink, MemSink, MemSource, PlainSource};
+use ea_io::{
+    ReadAllFault, Sink, Source, StdSink, StdSource, put_number, put_text, read_all, write_all,
+    write_texts,
 };
 use ea_model::List;
 use std::alloc::{AllocError, Global};

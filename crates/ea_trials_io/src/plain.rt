@@ -3,8 +3,8 @@ ghost use Rattle.std.specs.Prelude.{◌≡◌, ◌+◌, min, length, Ok, Some, N
 ghost use Rattle.ea_io.specs.Calls.{Reads, Writes};
 ghost use Rattle.ea_io.specs.Counts.{last_count};
 
-use crate::ends::{Failed, Sink, Source};
 use crate::pieces::copy_front;
+use ea_io::{Failed, Sink, Source};
 use ea_model::List;
 use std::marker::Model;
 
