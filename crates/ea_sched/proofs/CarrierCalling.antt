@@ -2,7 +2,7 @@
 -- a carrier by their answers.
 use Rattle.std.proofs.Common.{◌≤◌, ◌≡◌, ◌≢◌, ℕ, ◌%◌, ◌<◌, true, [], refl, sym, ap, ◌∙◌}
 use Rattle.std.proofs.Common.{subst, arith}
-use Rattle.std.specs.Prelude.{IfSome, IsSome, None, Option, ◌+◌, length}
+use Rattle.std.specs.Prelude.{IfSome, IsSome, None, ◌+◌, length}
 use Rattle.ea_model.specs.declared.units.TheConstants.{NUMBERS}
 use Rattle.ea_model.specs.declared.carriers.Kind.TheVariants.{Multi}
 use Rattle.ea_model.specs.Content.{Content, block_at, gaps_of, largest}
@@ -24,7 +24,6 @@ use Rattle.ea_machine.specs.Machine.{IsReached, run}
 use Rattle.ea_machine.specs.Owners.{Busy, Employed}
 use Rattle.ea_machine.specs.Rows.{Answer, BusyTry, Look, Lost, Row, Saw, Won}
 use Rattle.ea_machine.specs.Setup.{Setup, migration}
-use Rattle.ea_machine.specs.Shared.{Shared}
 use Rattle.ea_machine.specs.State.{State}
 use Rattle.ea_sound.proofs.ListedCalls as listed
 use Rattle.ea_sound.specs.Places.{IsNumber}
@@ -33,7 +32,7 @@ use Rattle.ea_sound.proofs.LeavingCalls as leaving
 use Rattle.ea_sound.proofs.ReleasingCalls as releasing
 use Rattle.ea_sound.proofs.WordCalls as words
 use Rattle.ea_sound.proofs.WordCalls.{NamesEmployer}
-use Rattle.ea_shared.specs.Calls.{Caller, Did}
+use Rattle.ea_shared.specs.Calls.{Did, Told}
 use Rattle.ea_shared.specs.Carriers.{HasReturned, IsCarrier, IsFor, IsPooledBy}
 use Rattle.ea_sched.specs.declared.state.Scheduler.{Scheduler}
 use Rattle.ea_sched.specs.Acting.{setup_for, standing_at}
@@ -42,8 +41,7 @@ use Rattle.ea_sched.proofs.Calling.{in-answered, in_state, told-so}
 use Rattle.ea_sched.proofs.Doing.{Answered}
 
 -- a scheduler that is ready for its row, at a stage
-module _ {stage : Stage Content} (s : Scheduler) {shared : Option Shared} {caller : Option Caller}
-    (h : IsReadyAt stage s shared caller) where
+module _ {stage : Stage Content} (s : Scheduler) {told : Told} (h : IsReadyAt stage s told) where
   abbrev me : ℕ
   me = s.number
 
@@ -108,7 +106,7 @@ module _ {stage : Stage Content} (s : Scheduler) {shared : Option Shared} {calle
             (carriers.settle-number s.config s.trace.now h.config h.trace w reached me
             number why gone x (in_state s h (Routed (Settling x) why gone) now))
 
-        pub settle-busy : IfSome shared (λ y. y.places x.number ≡ Busy me)
+        pub settle-busy : IfSome told.shared (λ y. y.places x.number ≡ Busy me)
         settle-busy = told-so s h (λ y. y.places x.number ≡ Busy me)
             (carriers.settle-place s.config s.trace.now h.config h.trace w reached me
             number why gone x (in_state s h (Routed (Settling x) why gone) now))
@@ -144,7 +142,7 @@ module _ {stage : Stage Content} (s : Scheduler) {shared : Option Shared} {calle
             (listed.abandon-room s.config s.trace.now h.config h.trace w reached me number
             why gone x (in_state s h (Routed (Abandoning x) why gone) now) own)
 
-        pub abandon-employed : IfSome shared (λ y. y.places x.number ≡ Employed me)
+        pub abandon-employed : IfSome told.shared (λ y. y.places x.number ≡ Employed me)
         abandon-employed = told-so s h (λ y. y.places x.number ≡ Employed me)
             (leaving.abandon-place s.config s.trace.now h.config h.trace w reached me
             number why gone x (in_state s h (Routed (Abandoning x) why gone) now))
@@ -181,7 +179,7 @@ module _ {stage : Stage Content} (s : Scheduler) {shared : Option Shared} {calle
             (leaving.send-number s.config s.trace.now h.config h.trace w reached me
             number why gone x (in_state s h (Routed (Sending x) why gone) now))
 
-        pub send-employed : IfSome shared (λ y. y.places x.number ≡ Employed me)
+        pub send-employed : IfSome told.shared (λ y. y.places x.number ≡ Employed me)
         send-employed = told-so s h (λ y. y.places x.number ≡ Employed me)
             (leaving.send-place s.config s.trace.now h.config h.trace w reached me
             number why gone x (in_state s h (Routed (Sending x) why gone) now))
@@ -197,7 +195,7 @@ module _ {stage : Stage Content} (s : Scheduler) {shared : Option Shared} {calle
             (leaving.clear-number s.config s.trace.now h.config h.trace w reached me
             number why gone x (in_state s h (Routed (Clearing x) why gone) now))
 
-        pub clear-employed : IfSome shared (λ y. y.places x.number ≡ Employed me)
+        pub clear-employed : IfSome told.shared (λ y. y.places x.number ≡ Employed me)
         clear-employed = told-so s h (λ y. y.places x.number ≡ Employed me)
             (leaving.clear-place s.config s.trace.now h.config h.trace w reached me
             number why gone x (in_state s h (Routed (Clearing x) why gone) now))
@@ -234,7 +232,7 @@ module _ {stage : Stage Content} (s : Scheduler) {shared : Option Shared} {calle
         (carriers.collect-number s.config s.trace.now h.config h.trace w reached me
         number n (in_state s h (Collecting n) now))
 
-    pub collect-returned : IfSome shared (λ y. HasReturned me (y.places n))
+    pub collect-returned : IfSome told.shared (λ y. HasReturned me (y.places n))
     collect-returned = told-so s h (λ y. HasReturned me (y.places n))
         (carriers.collect-home s.config s.trace.now h.config h.trace w reached me number n
         (in_state s h (Collecting n) now))
@@ -250,10 +248,10 @@ module _ {stage : Stage Content} (s : Scheduler) {shared : Option Shared} {calle
         reached me number n (in_state s h (Collecting n) now))) refl)
 
   -- a row was answered
-  module _ {new : Option Shared} {then : Option Caller} where
+  module _ {new : Told} where
     -- in that state the scheduler stood at the stage, too, with its instance
-    module _ (row : Row) (got : Answer) (did : Did me row got shared new caller then) where
-      abbrev u : Answered e me (standing_at stage s) row got shared caller then
+    module _ (row : Row) (got : Answer) (did : Did me row got told new) where
+      abbrev u : Answered e me (standing_at stage s) row got told new
       u = in-answered s h row got did
 
       there : (at : Stage Content) → stage ≡ at → ((run e u.turns).actors me).stage ≡ at
@@ -266,8 +264,7 @@ module _ {stage : Stage Content} (s : Scheduler) {shared : Option Shared} {calle
       -- the word that a look showed
       module _ (now : stage ≡ Routed (Looking hand) why gone) where
         pub saw-named : (v : OwnerWord)
-            → Did me (Look hand.spot.carrier) (Saw v) shared new caller then
-            → NamesEmployer v
+            → Did me (Look hand.spot.carrier) (Saw v) told new → NamesEmployer v
         saw-named v did =
             let u = in-answered s h (Look hand.spot.carrier) (Saw v) did in
             words.saw-named s.config s.trace.now h.config h.trace (run e u.turns)
@@ -275,8 +272,7 @@ module _ {stage : Stage Content} (s : Scheduler) {shared : Option Shared} {calle
             (Routed (Looking hand) why gone) now) v (sym u.answered)
 
         -- the block is here
-        pub saw-block : Did me (Look hand.spot.carrier) (Saw (word.Employed me)) shared new caller
-            then
+        pub saw-block : Did me (Look hand.spot.carrier) (Saw (word.Employed me)) told new
             → IsSome (block_in (employed s.instance) hand.spot)
         saw-block did =
             let row = Look hand.spot.carrier in
@@ -291,7 +287,7 @@ module _ {stage : Stage Content} (s : Scheduler) {shared : Option Shared} {calle
       -- a try to make the carrier busy
       module _ (seen : OwnerWord) (now : stage ≡ Routed (Trying hand seen) why gone) where
         pub won-block : (x : Content)
-            → Did me (BusyTry hand.spot.carrier seen) (Won x) shared new caller then
+            → Did me (BusyTry hand.spot.carrier seen) (Won x) told new
             → (x.number ≡ hand.spot.carrier) × (x.kind ≡ Multi)
             × IsSome (block_at x.blocks hand.spot.offset)
         won-block x did =
@@ -304,8 +300,7 @@ module _ {stage : Stage Content} (s : Scheduler) {shared : Option Shared} {calle
             (same, many, subst IsSome (sym at) refl)
 
         pub lost-named : (v : OwnerWord)
-            → Did me (BusyTry hand.spot.carrier seen) (Lost v) shared new caller then
-            → NamesEmployer v
+            → Did me (BusyTry hand.spot.carrier seen) (Lost v) told new → NamesEmployer v
         lost-named v did =
             let row = BusyTry hand.spot.carrier seen in
             let u = in-answered s h row (Lost v) did in

@@ -12,10 +12,9 @@ use Rattle.ea_machine.specs.Machine.{onward, wants_on}
 use Rattle.ea_machine.specs.Releases.{Turned, turned}
 use Rattle.ea_machine.specs.Rows.{Clear}
 use Rattle.ea_machine.specs.Setup.{Setup}
-use Rattle.ea_machine.specs.Shared.{Shared}
 use Rattle.ea_machine.specs.Tasks.{carried_by}
 use Rattle.ea_machine.specs.Walks.{after_route, collected, worked_off}
-use Rattle.ea_shared.specs.Calls.{Caller}
+use Rattle.ea_shared.specs.Calls.{Told}
 use Rattle.ea_sched.specs.declared.state.Scheduler.{Scheduler}
 use Rattle.ea_sched.specs.Acting.{IsSame, actor_of, setup_for, standing_at}
 use Rattle.ea_sched.specs.Steps.{DidRow}
@@ -48,9 +47,8 @@ module _ (route : Route Content) (why : Why) (gone : Gone) (s : Scheduler) where
   abbrev a : Actor
   a = standing_at (Routed route why gone) s
 
-  pub turned-next : {shared new : Option Shared} {caller now : Option Caller} (t : Scheduler)
-      → TurnedRow route why gone s t None shared new caller now
-      → DidRow (Routed route why gone) s t shared new caller now
+  pub turned-next : {told new : Told} (t : Scheduler) → TurnedRow route why gone s t None told new
+      → DidRow (Routed route why gone) s t told new
   turned-next t row =
       let u : Turned = turned e s.number route gone a row.got in
       record {
@@ -62,12 +60,10 @@ module _ (route : Route Content) (why : Why) (gone : Gone) (s : Scheduler) where
             row.turned;
       }
 
-  pub turned-over : {shared new : Option Shared} {caller now : Option Caller} (g : Gone)
-      (t v : Scheduler)
-      → TurnedRow route why gone s t (Some g) shared new caller now
-      → ((at : Stage Content) → actor_of v
+  pub turned-over : {told new : Told} (g : Gone) (t v : Scheduler)
+      → TurnedRow route why gone s t (Some g) told new → ((at : Stage Content) → actor_of v
       ≡ onward e s.number (after_route e s.number why g (standing_at at t)))
-      → DidRow (Routed route why gone) s v shared new caller now
+      → DidRow (Routed route why gone) s v told new
   turned-over g t v row ends =
       let u : Turned = turned e s.number route gone a row.got in
       record {
@@ -81,8 +77,8 @@ module _ (route : Route Content) (why : Why) (gone : Gone) (s : Scheduler) where
       }
 
 -- a carrier was collected
-module _ (n : ℕ) (s t : Scheduler) (same : IsSame s t) {shared new : Option Shared}
-    {caller then : Option Caller} (row : CollectedRow n s t shared new caller then) where
+module _ (n : ℕ) (s t : Scheduler) (same : IsSame s t) {told new : Told} (row : CollectedRow n s t
+    told new) where
   -- its walk goes on
   pub home-on : onward (setup_for t) t.number
       (worked_off (setup_for t) t.number t.passed.nodes (standing_at (Collecting n) t))
@@ -99,7 +95,7 @@ module _ (n : ℕ) (s t : Scheduler) (same : IsSame s t) {shared new : Option Sh
   pub home-walked : (v : Scheduler) → ((at : Stage Content) → actor_of v
       ≡ onward (setup_for t) t.number
       (worked_off (setup_for t) t.number t.passed.nodes (standing_at at t)))
-      → DidRow (Collecting n) s v shared new caller then
+      → DidRow (Collecting n) s v told new
   home-walked v goes = record {
     row = Clear n;
     got = row.got;

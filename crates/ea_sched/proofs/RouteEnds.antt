@@ -17,9 +17,8 @@ use Rattle.ea_machine.specs.Machine.{onward, run, wants_on}
 use Rattle.ea_machine.specs.Releases.{Turned, turned}
 use Rattle.ea_machine.specs.Rows.{Clear}
 use Rattle.ea_machine.specs.Setup.{Setup, migration}
-use Rattle.ea_machine.specs.Shared.{Shared}
 use Rattle.ea_machine.specs.Walks.{after_route, worked_off}
-use Rattle.ea_shared.specs.Calls.{Caller}
+use Rattle.ea_shared.specs.Calls.{Told}
 use Rattle.ea_sound.proofs.Calls as calls
 use Rattle.ea_sound.proofs.ShortRoutes.{turned-created, turned-keeps}
 use Rattle.ea_sched.specs.declared.state.Scheduler.{Scheduler}
@@ -46,17 +45,16 @@ plans-after_as e me s why y o p q r creates = subst (λ x. PlansAfter e me x o s
     (subst (λ x. PlansAfter e me y x s) (sym r) creates)
 
 -- a route on a carrier is one where carriers migrate
-pub route-on : {shared : Option Shared} {caller : Option Caller} (s : Scheduler)
-    (route : Route Content) (why : Why) (gone : Gone)
-    → IsReadyAt (Routed route why gone) s shared caller
+pub route-on : {told : Told} (s : Scheduler) (route : Route Content) (why : Why) (gone : Gone)
+    → IsReadyAt (Routed route why gone) s told
     → ((node : Node) (to : ℕ) → route ≡ Pushing node to → ⊥)
     → ((node : Node) (to : ℕ) → route ≡ Linking node to → ⊥)
     → migration (setup_for s) ≡ true
 route-on s route why gone h push link = stands-on s h (λ off. no-route route off push link)
 
 module _ (s t : Scheduler) (same : IsSame s t) (route : Route Content) (why : Why) (gone : Gone)
-    {shared : Option Shared} {caller : Option Caller}
-    (h : IsReadyAt (Routed route why gone) s shared caller) where
+    {told : Told}
+    (h : IsReadyAt (Routed route why gone) s told) where
   abbrev e : Setup
   e = setup_for s
 
@@ -77,17 +75,17 @@ module _ (s t : Scheduler) (same : IsSame s t) (route : Route Content) (why : Wh
   created-by u g (Some r) by = absurd (let never : Some g ≡ None = by.0 in cc)
 
   -- its row was done
-  module _ {new : Option Shared} {then : Option Caller} where
+  module _ {new : Told} where
     -- a walk that goes on may come to the next operation
-    pub over-next : (o : Option Gone) → TurnedRow route why gone s t o shared new caller then
+    pub over-next : (o : Option Gone) → TurnedRow route why gone s t o told new
         → IsSome o → why ≡ Walk → SuitsNext t.instance t
     over-next None row is walk = absurd (let no : false ≡ true = is in cc)
     over-next (Some g) row is walk = suits-row s t same route gone g
-        (subst (λ y. IsReadyAt (Routed route y gone) s shared caller) walk h)
-        (subst (λ y. TurnedRow route y gone s t (Some g) shared new caller then) walk row)
+        (subst (λ y. IsReadyAt (Routed route y gone) s told) walk h)
+        (subst (λ y. TurnedRow route y gone s t (Some g) told new) walk row)
 
     -- the operation whose block is gone is left
-    pub over-more : (o : Option Gone) → TurnedRow route why gone s t o shared new caller then
+    pub over-more : (o : Option Gone) → TurnedRow route why gone s t o told new
         → IsSome o → (task : Task) → why ≡ For task → HasMore t
     over-more None row is task for = absurd (let no : false ≡ true = is in cc)
     over-more (Some g) row is task for =
@@ -102,7 +100,7 @@ module _ (s t : Scheduler) (same : IsSame s t) (route : Route Content) (why : Wh
         ∙ sym (ap (λ (x : Actor). x.todo) h.actor) ∙ first.2)
 
     -- one carrier more can be counted
-    pub over-counts : (o : Option Gone) → TurnedRow route why gone s t o shared new caller then
+    pub over-counts : (o : Option Gone) → TurnedRow route why gone s t o told new
         → IsSome o → CanCount t.instance
     over-counts None row is = absurd (let no : false ≡ true = is in cc)
     over-counts (Some g) row is =
@@ -113,9 +111,8 @@ module _ (s t : Scheduler) (same : IsSame s t) (route : Route Content) (why : Wh
 
     -- the scheduler has gone on by the answer
     pub turned-done : (o : Option Gone) (v : Scheduler)
-        → TurnedRow route why gone s t o shared new caller then
-        → EndsRoute (setup_for t) t.number why o t v
-        → DidRow (Routed route why gone) s v shared new caller then
+        → TurnedRow route why gone s t o told new → EndsRoute (setup_for t) t.number why o t v
+        → DidRow (Routed route why gone) s v told new
     turned-done None v row ends =
         let d = turned-next route why gone s t row in
         record { row = d.row; got = d.got; wanted = d.wanted; did = d.did; is = ends ∙ d.is }
@@ -124,9 +121,9 @@ module _ (s t : Scheduler) (same : IsSame s t) (route : Route Content) (why : Wh
         (subst (λ x. EndsRoute x t.number why (Some g) t v) (same-setup s t same) ends))
 
     -- what comes after the route plans a carrier
-    pub turned-plans : (o : Option Gone) → TurnedRow route why gone s t o shared new caller then
+    pub turned-plans : (o : Option Gone) → TurnedRow route why gone s t o told new
         → PlansAfter (setup_for t) t.number why o t
-        → PlansAt (Routed route why gone) s shared caller
+        → PlansAt (Routed route why gone) s told
     turned-plans None row never = absurd never
     turned-plans (Some g) row plans =
         let a = standing_at (Routed route why gone) s in
@@ -142,12 +139,12 @@ module _ (s t : Scheduler) (same : IsSame s t) (route : Route Content) (why : Wh
         (after u.actor.stage)))
 
 -- what goes on from a carrier that was collected plans a carrier
-pub home-plans : (n : ℕ) (s : Scheduler) {shared new : Option Shared}
-    {caller then : Option Caller} → IsReadyAt (Collecting n) s shared caller → (t : Scheduler)
-    → IsSame s t → CollectedRow n s t shared new caller then
+pub home-plans : (n : ℕ) (s : Scheduler) {told new : Told} → IsReadyAt (Collecting n) s told
+    → (t : Scheduler)
+    → IsSame s t → CollectedRow n s t told new
     → ((at : Stage Content) → PlansFrom t (onward (setup_for t) t.number
     (worked_off (setup_for t) t.number t.passed.nodes (standing_at at t))))
-    → PlansAt (Collecting n) s shared caller
+    → PlansAt (Collecting n) s told
 home-plans n s h t same row plans =
     let e = setup_for s in
     let now = onward (setup_for t) t.number

@@ -1,6 +1,6 @@
 -- Where a scheduler stands shows that carriers migrate.
 use Rattle.std.proofs.Common.{◌≡◌, ℕ, Bor, true, false, refl, ap, ◌∙◌, subst}
-use Rattle.std.specs.Prelude.{Bool, Option}
+use Rattle.std.specs.Prelude.{Bool}
 use Rattle.ea_model.specs.declared.trace.Trace.{Trace}
 use Rattle.ea_model.specs.Content.{Content}
 use Rattle.ea_machine.specs.declared.nodes.Node.{Node}
@@ -13,9 +13,8 @@ use Rattle.ea_machine.specs.declared.stages.Stage.TheVariants.{Collecting, Ready
 use Rattle.ea_machine.specs.Actor.{Actor}
 use Rattle.ea_machine.specs.Setup.{Setup, migration, setup_of}
 use Rattle.ea_machine.specs.Machine.{IsReached, run}
-use Rattle.ea_machine.specs.Shared.{Shared}
 use Rattle.ea_machine.specs.State.{State}
-use Rattle.ea_shared.specs.Calls.{Caller}
+use Rattle.ea_shared.specs.Calls.{Told}
 use Rattle.ea_sound.specs.Present.{Fits}
 use Rattle.ea_sound.proofs.Asked.{reached-rule}
 use Rattle.ea_sound.proofs.OffStages.{IsOffRoute, IsOffStage, is-off}
@@ -38,8 +37,7 @@ no-route (Sending x) is push link = is
 no-route (Clearing x) is push link = is
 
 -- a scheduler that is ready for its row, at a stage
-module _ {stage : Stage Content} (s : Scheduler) {shared : Option Shared} {caller : Option Caller}
-    (h : IsReadyAt stage s shared caller) where
+module _ {stage : Stage Content} (s : Scheduler) {told : Told} (h : IsReadyAt stage s told) where
   abbrev e : Setup
   e = setup_for s
 
@@ -75,8 +73,8 @@ module _ {stage : Stage Content} (s : Scheduler) {shared : Option Shared} {calle
       (rule.present.fits s.number)
 
 -- at a carrier that came home
-pub home-on : (n : ℕ) (s : Scheduler) {shared : Option Shared} {caller : Option Caller}
-    → IsReadyAt (Collecting n) s shared caller → migration (setup_for s) ≡ true
+pub home-on : (n : ℕ) (s : Scheduler) {told : Told}
+    → IsReadyAt (Collecting n) s told → migration (setup_for s) ≡ true
 home-on n s h = stands-on s h (λ off. off)
 
 -- it stays in the same run

@@ -24,7 +24,7 @@ use Rattle.ea_sound.proofs.Assembly.{HoldsAt}
 use Rattle.ea_sound.proofs.CarrierCalls.{turned-walk, walks}
 use Rattle.ea_sound.proofs.ShortRoutes.{turned-keeps}
 use Rattle.ea_sound.proofs.WalkCalls.{collected-walks}
-use Rattle.ea_shared.specs.Calls.{Caller, Did}
+use Rattle.ea_shared.specs.Calls.{Did, Told}
 use Rattle.ea_sched.specs.declared.state.Scheduler.{Scheduler}
 use Rattle.ea_sched.specs.Acting.{IsSame, setup_for, standing_at}
 use Rattle.ea_sched.specs.Asking.{SuitsNext}
@@ -58,9 +58,9 @@ module _ (s t : Scheduler) (same : IsSame s t) (valid : IsValidConfig s.config)
 
 -- the row of a route was done, and the route is over
 module _ (s t : Scheduler) (same : IsSame s t) (route : Route Content) (gone : Gone)
-    {shared new : Option Shared} {caller then : Option Caller}
-    (h : IsReadyAt (Routed route Walk gone) s shared caller) (got : Answer)
-    (did : Did s.number (wants_on route) got shared new caller then) where
+    {told new : Told}
+    (h : IsReadyAt (Routed route Walk gone) s told) (got : Answer)
+    (did : Did s.number (wants_on route) got told new) where
   abbrev e : Setup
   e = setup_for s
 
@@ -76,7 +76,7 @@ module _ (s t : Scheduler) (same : IsSame s t) (route : Route Content) (gone : G
   number : IsScheduler s.config.schedulers me
   number = (s.number_from, s.number_to)
 
-  u : Answered e me a (wants_on route) got shared caller then
+  u : Answered e me a (wants_on route) got told new
   u = in-answered s h (wants_on route) got did
 
   -- it stood so in this state
@@ -126,8 +126,8 @@ module _ (s t : Scheduler) (same : IsSame s t) (route : Route Content) (gone : G
   suits-over over by = by-turned over turn.route refl by
 
 -- a carrier was collected
-module _ (s t : Scheduler) (same : IsSame s t) (n : ℕ) {shared : Option Shared}
-    {caller : Option Caller} (h : IsReadyAt (Collecting n) s shared caller) where
+module _ (s t : Scheduler) (same : IsSame s t) (n : ℕ) {told : Told} (h : IsReadyAt (Collecting n) s
+    told) where
   abbrev w : State
   w = run (setup_for s) h.turns
 
@@ -148,15 +148,13 @@ module _ (s t : Scheduler) (same : IsSame s t) (n : ℕ) {shared : Option Shared
       (ap (λ (b : Actor). b.stage) h.actor)))
 
 -- so it is where the code says so
-module _ (s t : Scheduler) (same : IsSame s t) {shared new : Option Shared}
-    {caller then : Option Caller} where
+module _ (s t : Scheduler) (same : IsSame s t) {told new : Told} where
   pub suits-row : (route : Route Content) (gone over : Gone)
-      → IsReadyAt (Routed route Walk gone) s shared caller
-      → TurnedRow route Walk gone s t (Some over) shared new caller then
-      → SuitsNext t.instance t
+      → IsReadyAt (Routed route Walk gone) s told
+      → TurnedRow route Walk gone s t (Some over) told new → SuitsNext t.instance t
   suits-row route gone over h row =
       suits-over s t same route gone h row.got row.did over row.turned
 
-  pub suits-home : (n : ℕ) → IsReadyAt (Collecting n) s shared caller
-      → CollectedRow n s t shared new caller then → SuitsNext t.instance t
+  pub suits-home : (n : ℕ) → IsReadyAt (Collecting n) s told
+      → CollectedRow n s t told new → SuitsNext t.instance t
   suits-home n h row = suits-collected s t same n h (row.is Begin)

@@ -12,9 +12,8 @@ use Rattle.ea_machine.specs.Machine.{onward, wants_on}
 use Rattle.ea_machine.specs.Releases.{Turned, disowned, turned}
 use Rattle.ea_machine.specs.Rows.{Answer, Clear}
 use Rattle.ea_machine.specs.Setup.{Setup}
-use Rattle.ea_machine.specs.Shared.{Shared}
 use Rattle.ea_machine.specs.Walks.{after_route}
-use Rattle.ea_shared.specs.Calls.{Caller, Did}
+use Rattle.ea_shared.specs.Calls.{Did, Told}
 use Rattle.ea_sched.specs.declared.state.Scheduler.{Scheduler}
 use Rattle.ea_sched.specs.Acting.{actor_of, setup_for, standing_at}
 
@@ -32,17 +31,16 @@ HasTurned why t over s = TurnedBy why t.gone t.actor t.route over s
 -- the row of a route that the scheduler wanted was done, and this is where its answer leaves the
 -- scheduler
 pub record TurnedRow (route : Route Content) (why : Why) (gone : Gone) (s t : Scheduler)
-    (over : Option Gone) (shared after : Option Shared) (caller now : Option Caller) : Type 0 where
+    (over : Option Gone) (before after : Told) : Type 0 where
   pub got : Answer
-  pub did : Did s.number (wants_on route) got shared after caller now
+  pub did : Did s.number (wants_on route) got before after
   pub turned : HasTurned why (turned (setup_for s) s.number route gone
       (standing_at (Routed route why gone) s) got) over t
 
 -- the row of a carrier that came home was done: the scheduler no longer owns the carrier
-pub record CollectedRow (number : ℕ) (s t : Scheduler) (shared after : Option Shared)
-    (caller now : Option Caller) : Type 0 where
+pub record CollectedRow (number : ℕ) (s t : Scheduler) (before after : Told) : Type 0 where
   pub got : Answer
-  pub did : Did s.number (Clear number) got shared after caller now
+  pub did : Did s.number (Clear number) got before after
   pub is : (at : Stage Content) → standing_at at t
       ≡ disowned number (struck number (standing_at at s))
 

@@ -55,17 +55,14 @@ impl<'t> Scheduler<'t> {
         why: Why,
         gone: Gone,
     ) -> Option<Gone>
-        requires starts { StartsRow (stage.Routed route why gone) self.old
-            (S.schedulers shared.old) (S.greatest shared.old) (S.migrates shared.old)
-            (S.shared shared.old) (S.caller shared.old) }
+        requires starts { StartsRow (stage.Routed route why gone) self.old (S.told shared.old) }
         requires on { migration (setup_for self.old) ≡ true }
         requires pushing { (node : Node) (to : ℕ) → route ≢ routes.Pushing node to }
         requires linking { (node : Node) (to : ℕ) → route ≢ routes.Linking node to }
         ensures stays { S.stays shared.old shared.new }
         ensures same { IsSame self.old self.new }
-        ensures row { TurnedRow route why gone self.old self.new result
-            (S.shared shared.old) (S.shared shared.new) (S.caller shared.old)
-            (S.caller shared.new) }
+        ensures row { TurnedRow route why gone self.old self.new result (S.told shared.old)
+            (S.told shared.new) }
     {
         match route {
             Route::Looking { hand } => self.look(shared, hand, why, gone),
@@ -90,16 +87,13 @@ impl<'t> Scheduler<'t> {
         why: Why,
         gone: Gone,
     ) -> Result<(), OutOfMemory>
-        requires starts { StartsRow (stage.Routed route why gone) self.old
-            (S.schedulers shared.old) (S.greatest shared.old) (S.migrates shared.old)
-            (S.shared shared.old) (S.caller shared.old) }
+        requires starts { StartsRow (stage.Routed route why gone) self.old (S.told shared.old) }
         ensures stays { S.stays shared.old shared.new }
         ensures same { IsSame self.old self.new }
         ensures row { OnOk result (DidRow (stage.Routed route why gone) self.old self.new
-            (S.shared shared.old) (S.shared shared.new) (S.caller shared.old)
-            (S.caller shared.new)) }
+            (S.told shared.old) (S.told shared.new)) }
         ensures memory { OnErr result (PlansAt (stage.Routed route why gone) self.old
-            (S.shared shared.old) (S.caller shared.old)) }
+            (S.told shared.old)) }
     {
         match route {
             Route::Pushing { node, to } => {

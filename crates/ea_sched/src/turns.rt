@@ -47,14 +47,12 @@ impl<'t> Scheduler<'t> {
         gone: Gone,
     ) -> Option<Gone>
         requires starts { StartsRow (stage.Routed (route.Looking hand) why gone) self.old
-            (S.schedulers shared.old) (S.greatest shared.old) (S.migrates shared.old)
-            (S.shared shared.old) (S.caller shared.old) }
+            (S.told shared.old) }
         requires on { migration (setup_for self.old) ≡ true }
         ensures stays { S.stays shared.old shared.new }
         ensures same { IsSame self.old self.new }
         ensures row { TurnedRow (route.Looking hand) why gone self.old self.new result
-            (S.shared shared.old) (S.shared shared.new) (S.caller shared.old)
-            (S.caller shared.new) }
+            (S.told shared.old) (S.told shared.new) }
     {
         let seen = shared.look(self.number, hand.spot.carrier);
         self.looked(hand, seen, why, gone)
@@ -71,14 +69,12 @@ impl<'t> Scheduler<'t> {
         gone: Gone,
     ) -> Option<Gone>
         requires starts { StartsRow (stage.Routed (route.Trying hand seen) why gone) self.old
-            (S.schedulers shared.old) (S.greatest shared.old) (S.migrates shared.old)
-            (S.shared shared.old) (S.caller shared.old) }
+            (S.told shared.old) }
         requires on { migration (setup_for self.old) ≡ true }
         ensures stays { S.stays shared.old shared.new }
         ensures same { IsSame self.old self.new }
         ensures row { TurnedRow (route.Trying hand seen) why gone self.old self.new result
-            (S.shared shared.old) (S.shared shared.new) (S.caller shared.old)
-            (S.caller shared.new) }
+            (S.told shared.old) (S.told shared.new) }
     {
         match shared.busy_try(self.number, hand.spot.carrier, seen) {
             Tried::Won { mut content } => {
@@ -102,14 +98,12 @@ impl<'t> Scheduler<'t> {
         gone: Gone,
     ) -> Option<Gone>
         requires starts { StartsRow (stage.Routed (route.Settling content) why gone) self.old
-            (S.schedulers shared.old) (S.greatest shared.old) (S.migrates shared.old)
-            (S.shared shared.old) (S.caller shared.old) }
+            (S.told shared.old) }
         requires on { migration (setup_for self.old) ≡ true }
         ensures stays { S.stays shared.old shared.new }
         ensures same { IsSame self.old self.new }
         ensures row { TurnedRow (route.Settling content) why gone self.old self.new result
-            (S.shared shared.old) (S.shared shared.new) (S.caller shared.old)
-            (S.caller shared.new) }
+            (S.told shared.old) (S.told shared.new) }
     {
         let number = content.number();
         if content.is_empty() {
@@ -146,14 +140,12 @@ impl<'t> Scheduler<'t> {
         gone: Gone,
     ) -> Option<Gone>
         requires starts { StartsRow (stage.Routed (route.Abandoning content) why gone) self.old
-            (S.schedulers shared.old) (S.greatest shared.old) (S.migrates shared.old)
-            (S.shared shared.old) (S.caller shared.old) }
+            (S.told shared.old) }
         requires on { migration (setup_for self.old) ≡ true }
         ensures stays { S.stays shared.old shared.new }
         ensures same { IsSame self.old self.new }
         ensures row { TurnedRow (route.Abandoning content) why gone self.old self.new result
-            (S.shared shared.old) (S.shared shared.new) (S.caller shared.old)
-            (S.caller shared.new) }
+            (S.told shared.old) (S.told shared.new) }
     {
         let number = content.number();
         let carrier = content.into_multi();
@@ -172,14 +164,12 @@ impl<'t> Scheduler<'t> {
         gone: Gone,
     )
         requires starts { StartsRow (stage.Routed (route.Sending content) why gone) self.old
-            (S.schedulers shared.old) (S.greatest shared.old) (S.migrates shared.old)
-            (S.shared shared.old) (S.caller shared.old) }
+            (S.told shared.old) }
         requires on { migration (setup_for self.old) ≡ true }
         ensures stays { S.stays shared.old shared.new }
         ensures same { IsSame self.old self.new }
         ensures row { TurnedRow (route.Sending content) why gone self.old self.new None
-            (S.shared shared.old) (S.shared shared.new) (S.caller shared.old)
-            (S.caller shared.new) }
+            (S.told shared.old) (S.told shared.new) }
     {
         let number = content.number();
         let to = owner_of(number);
@@ -199,14 +189,12 @@ impl<'t> Scheduler<'t> {
         gone: Gone,
     ) -> Option<Gone>
         requires starts { StartsRow (stage.Routed (route.Clearing content) why gone) self.old
-            (S.schedulers shared.old) (S.greatest shared.old) (S.migrates shared.old)
-            (S.shared shared.old) (S.caller shared.old) }
+            (S.told shared.old) }
         requires on { migration (setup_for self.old) ≡ true }
         ensures stays { S.stays shared.old shared.new }
         ensures same { IsSame self.old self.new }
         ensures row { TurnedRow (route.Clearing content) why gone self.old self.new result
-            (S.shared shared.old) (S.shared shared.new) (S.caller shared.old)
-            (S.caller shared.new) }
+            (S.told shared.old) (S.told shared.new) }
     {
         let number = content.number();
         shared.clear_own(self.number, number);
@@ -218,14 +206,12 @@ impl<'t> Scheduler<'t> {
     /// A carrier of the scheduler's own that came home is cleared: its number and pages are free
     /// again.
     fn collect<S: Shared<Content = Mbc>>(&mut self, shared: &mut S, number: u32)
-        requires starts { StartsRow (stage.Collecting number) self.old
-            (S.schedulers shared.old) (S.greatest shared.old) (S.migrates shared.old)
-            (S.shared shared.old) (S.caller shared.old) }
+        requires starts { StartsRow (stage.Collecting number) self.old (S.told shared.old) }
         requires on { migration (setup_for self.old) ≡ true }
         ensures stays { S.stays shared.old shared.new }
         ensures same { IsSame self.old self.new }
-        ensures row { CollectedRow number self.old self.new (S.shared shared.old)
-            (S.shared shared.new) (S.caller shared.old) (S.caller shared.new) }
+        ensures row { CollectedRow number self.old self.new (S.told shared.old)
+            (S.told shared.new) }
     {
         let content = Held::multi(shared.clear_returned(self.number, number));
         self.lists.remove(number);
@@ -240,16 +226,13 @@ impl<'t> Scheduler<'t> {
         shared: &mut S,
         number: u32,
     ) -> Result<(), OutOfMemory>
-        requires starts { StartsRow (stage.Collecting number) self.old
-            (S.schedulers shared.old) (S.greatest shared.old) (S.migrates shared.old)
-            (S.shared shared.old) (S.caller shared.old) }
+        requires starts { StartsRow (stage.Collecting number) self.old (S.told shared.old) }
         ensures stays { S.stays shared.old shared.new }
         ensures same { IsSame self.old self.new }
         ensures row { OnOk result (DidRow (stage.Collecting number) self.old self.new
-            (S.shared shared.old) (S.shared shared.new) (S.caller shared.old)
-            (S.caller shared.new)) }
+            (S.told shared.old) (S.told shared.new)) }
         ensures memory { OnErr result (PlansAt (stage.Collecting number) self.old
-            (S.shared shared.old) (S.caller shared.old)) }
+            (S.told shared.old)) }
     {
         self.collect(shared, number);
         self.end_walk(alloc)

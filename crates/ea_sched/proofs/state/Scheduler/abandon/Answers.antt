@@ -26,7 +26,7 @@ abandon-requires-clause-carrier g c = as-carrier c.number-number.ensures
 
 pub abandon-requires-clause-employed : goal.abandon-requires-clause-employed
 abandon-requires-clause-employed g c =
-    subst (λ n. IfSome (g.S.Shared.shared c.args.shared.now)
+    subst (λ n. IfSome (g.S.Shared.told c.args.shared.now).shared
     (λ s. s.places n ≡ Employed c.args.self.now.number)) (sym c.number-number.ensures)
     (abandon-employed c.args.self.now c.requires.starts.ready c.args.why c.args.gone
     c.args.content refl)
@@ -48,9 +48,8 @@ returns-clause-row g c =
     let s = c.args.self.now in
     record {
       got = Done;
-      did = subst (λ y. Did s.number (Abandon y) Done (g.S.Shared.shared c.args.shared.now)
-          (g.S.Shared.shared c.abandon.new.self) (g.S.Shared.caller c.args.shared.now)
-          (g.S.Shared.caller c.abandon.new.self)) c.into_multi-carrier.ensures
+      did = subst (λ y. Did s.number (Abandon y) Done (g.S.Shared.told c.args.shared.now)
+          (g.S.Shared.told c.abandon.new.self)) c.into_multi-carrier.ensures
           c.abandon.ensures.row;
       turned = (
         refl,

@@ -15,7 +15,7 @@ clear_own-requires-clause-carrier g c = as-carrier c.number-number.ensures
 
 pub clear_own-requires-clause-employed : goal.clear_own-requires-clause-employed
 clear_own-requires-clause-employed g c =
-    subst (λ n. IfSome (g.S.Shared.shared c.args.shared.now)
+    subst (λ n. IfSome (g.S.Shared.told c.args.shared.now).shared
     (λ s. s.places n ≡ Employed c.args.self.now.number)) (sym c.number-number.ensures)
     (clear-employed c.args.self.now c.requires.starts.ready c.args.why c.args.gone c.args.content
     refl)

@@ -20,8 +20,7 @@ pub looked-requires-clause-block : goal.looked-requires-clause-block
 looked-requires-clause-block g c = λ mine.
     saw-block c.args.self.now c.requires.starts.ready c.args.why c.args.gone c.args.hand refl
     (subst (λ v. Did c.args.self.now.number (Look c.args.hand.spot.carrier) (Saw v)
-    (g.S.Shared.shared c.args.shared.now) (g.S.Shared.shared c.look-seen.new.self)
-    (g.S.Shared.caller c.args.shared.now) (g.S.Shared.caller c.look-seen.new.self)) mine
+    (g.S.Shared.told c.args.shared.now) (g.S.Shared.told c.look-seen.new.self)) mine
     c.look-seen.ensures.row)
 
 pub looked-requires-clause-settings : goal.looked-requires-clause-settings

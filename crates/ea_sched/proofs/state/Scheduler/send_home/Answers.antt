@@ -20,7 +20,7 @@ send_home-requires-clause-carrier g c = as-carrier c.number-number.ensures
 
 pub send_home-requires-clause-employed : goal.send_home-requires-clause-employed
 send_home-requires-clause-employed g c =
-    subst (λ n. IfSome (g.S.Shared.shared c.args.shared.now)
+    subst (λ n. IfSome (g.S.Shared.told c.args.shared.now).shared
     (λ s. s.places n ≡ Employed c.args.self.now.number)) (sym c.number-number.ensures)
     (send-employed c.args.self.now c.requires.starts.ready c.args.why c.args.gone c.args.content
     refl)

@@ -22,7 +22,7 @@ settle_employed-requires-clause-carrier g c = as-carrier c.number-number.ensures
 
 pub settle_employed-requires-clause-busy : goal.settle_employed-requires-clause-busy
 settle_employed-requires-clause-busy g c =
-    subst (λ n. IfSome (g.S.Shared.shared c.args.shared.now)
+    subst (λ n. IfSome (g.S.Shared.told c.args.shared.now).shared
     (λ s. s.places n ≡ Busy c.args.self.now.number)) (sym c.number-number.ensures)
     (settle-busy c.args.self.now c.requires.starts.ready c.args.why c.args.gone c.args.content refl)
 
@@ -65,7 +65,7 @@ settle_pooled-requires-clause-carrier g c = as-carrier c.number-number.ensures
 
 pub settle_pooled-requires-clause-busy : goal.settle_pooled-requires-clause-busy
 settle_pooled-requires-clause-busy g c =
-    subst (λ n. IfSome (g.S.Shared.shared c.args.shared.now)
+    subst (λ n. IfSome (g.S.Shared.told c.args.shared.now).shared
     (λ s. s.places n ≡ Busy c.args.self.now.number)) (sym c.number-number.ensures)
     (settle-busy c.args.self.now c.requires.starts.ready c.args.why c.args.gone c.args.content refl)
 
