@@ -153,7 +153,7 @@ module _ {stage : Stage Content} (s : Scheduler) {shared : Option Shared} {calle
         )
 
   -- a node is to be pushed
-  module _ (node : Node) (to : ℕ) (why : Why) (gone : Gone)
+  module _ {node : Node} {to : ℕ} {why : Why} {gone : Gone}
       (now : stage ≡ Routed (Pushing node to) why gone) where
     pub push-target : IsScheduler s.config.schedulers to
     push-target = (calls.push-target s.config s.trace.now h.config h.trace w reached me
@@ -169,7 +169,7 @@ module _ {stage : Stage Content} (s : Scheduler) {shared : Option Shared} {calle
         to why gone (in_state (Routed (Pushing node to) why gone) now))
 
   -- a node is to be linked
-  module _ (node : Node) (to : ℕ) (why : Why) (gone : Gone)
+  module _ {node : Node} {to : ℕ} {why : Why} {gone : Gone}
       (now : stage ≡ Routed (Linking node to) why gone) where
     pub link-target : IsScheduler s.config.schedulers to
     link-target = calls.link-target s.config s.trace.now h.config h.trace w reached me

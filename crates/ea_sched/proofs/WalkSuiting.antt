@@ -1,5 +1,4 @@
--- After the row of a route that is over, or once a carrier was collected, the scheduler may work off
--- its walk.
+-- After a route that is over, or a carrier that was collected, the scheduler can work off its walk.
 use Rattle.std.proofs.Common.{◌≡◌, ℕ, refl, sym, ap, ◌∙◌, subst}
 use Rattle.std.specs.Prelude.{None, Option}
 use Rattle.ea_model.specs.Content.{Content}
