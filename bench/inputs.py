@@ -63,6 +63,9 @@ SIZES = {"equal": (LEAST, LEAST), "random": (LEAST, 1000)}
 # Blocks that fill 256 carriers of 16 kB, or 254 of 28 kB, before 10,000 of them are kept, and their least and most bytes.
 # Those of one size, 40 units, fill carriers of 16 kB and of 256 kB to the end.
 SPREAD = {"equal": (13_056, 312, 312), "random": (13_600, LEAST, 1000)}
+# That many blocks of 78 units fill 512 MB, but for headers of carriers and what is left at their ends.
+SMALL_BLOCKS = 857_600
+SMALL_BLOCK = 616
 # Twenty blocks of that many bytes fill a carrier of 256 kB to its end.
 TWENTIETH = 13096
 
@@ -128,6 +131,18 @@ def stacked(count):
 def filled_carriers(count):
     """More blocks than 512 MB hold: the last ones find no carrier."""
     return OPENING + "".join(f"alloc {name} {LARGEST - 4096}\n" for name in range(1, count + 1)) + CLOSING
+
+
+def full(schedulers, operations):
+    """operations in all, of which as many as there is room for in 512 MB fill these with small blocks; the others do
+    nothing."""
+    each = SMALL_BLOCKS // schedulers
+    texts = [
+        "".join(f"alloc {name} {SMALL_BLOCK}\n" for name in range(me * each + 1, (me + 1) * each + 1))
+        + "idle\n" * (operations // schedulers - each)
+        for me in range(schedulers)
+    ]
+    return sections_of(texts) + CLOSING
 
 
 def carriers(count):
@@ -526,6 +541,8 @@ def main(folder):
         "handed-over-16": handed_over(SCHEDULERS, 125, 25),
         "ended-turns": ended_turns(),
         "filled-512": filled_carriers(1100),
+        "full-1": full(1, SMALL_BLOCKS),
+        "full-64": full(MOST_SCHEDULERS, MOST_OPERATIONS),
         "tries": tries(),
         f"generated/{2**18}": f"type H\ngenerate 7 {2**18 // SCHEDULERS}\nend\n",
         f"generated/{MOST_OPERATIONS}": f"type H\ngenerate 7 {MOST_OPERATIONS // SCHEDULERS}\nend\n",

@@ -13,12 +13,9 @@ use Rattle.ea_machine.specs.declared.nodes.Named.{Named}
 use Rattle.ea_machine.specs.declared.nodes.Node.{Node}
 use Rattle.ea_machine.specs.declared.nodes.Node.TheVariants.{Block, Carrier}
 use Rattle.ea_machine.specs.declared.tasks.Gone.{Gone}
-use Rattle.ea_machine.specs.declared.tasks.Task.{Task}
 use Rattle.ea_machine.specs.declared.tasks.Why.{Why}
-use Rattle.ea_machine.specs.declared.tasks.Why.TheVariants.{Walk, For}
 use Rattle.ea_machine.specs.declared.stages.Stage.{Stage}
 use Rattle.ea_machine.specs.declared.stages.Stage.TheVariants.{Begin, Giving, Routed, Taking}
-use Rattle.ea_machine.specs.declared.stages.Route.{Route}
 use Rattle.ea_machine.specs.declared.stages.Route.TheVariants.{Linking, Pushing}
 use Rattle.ea_machine.specs.Actor.{Actor}
 use Rattle.ea_machine.specs.Alike.{HasNoAlike, IsNode, IsSpot}
@@ -27,7 +24,7 @@ use Rattle.ea_machine.specs.Machine.{IsReached, after_row, begins, onward, run, 
 use Rattle.ea_machine.specs.Nodes.{first_node, spot_named}
 use Rattle.ea_machine.specs.Operations.{took_by}
 use Rattle.ea_machine.specs.Rows.{Answer, Got, Passes, Rests, Row, TakeLink, TakeTry}
-use Rattle.ea_machine.specs.Setup.{Setup, migration}
+use Rattle.ea_machine.specs.Setup.{Setup}
 use Rattle.ea_machine.specs.Shared.{Shared}
 use Rattle.ea_machine.specs.State.{State}
 use Rattle.ea_machine.specs.Table.{answer}
@@ -39,15 +36,13 @@ use Rattle.ea_sound.proofs.FewCreated.{created-counts}
 use Rattle.ea_sound.proofs.FewPassed.{passes-few}
 use Rattle.ea_sched.specs.declared.state.Scheduler.{Scheduler}
 use Rattle.ea_sched.specs.Acting.{actor_of, is_ended, setup_for, standing_at}
-use Rattle.ea_sched.specs.Asking.{CanCount, HasMore, IsFresh, SuitsNext}
+use Rattle.ea_sched.specs.Asking.{CanCount, CanWorkOff, HasMore, IsFresh, SuitsNext}
 use Rattle.ea_sched.specs.Creations.{PlansAt, PlansFrom}
 use Rattle.ea_sched.specs.Steps.{DidRow, IsReadyAt}
-use Rattle.ea_sound.specs.Walking.{CanAllGo, worked}
 use Rattle.ea_sched.proofs.Doing.{Answered, answered-so, is_creating, none-creating, plans-so}
 use Rattle.ea_sched.proofs.Doing.{stage-goes}
 use Rattle.ea_sched.proofs.AfterWalk.{next-placed}
-use Rattle.ea_sched.proofs.Suiting.{goes-linked, goes-passed, suits-after_link, suits-linked}
-use Rattle.ea_sched.proofs.Suiting.{suits-passed, suits-rests, suits-taken}
+use Rattle.ea_sched.proofs.Suiting.{suits-rests, suits-taken, works-passed}
 
 -- something is left where a first one is
 pub left-more : {A : Type 0} (k : ℕ) (xs ys : List A) (x : A) → drop k xs ≡ x ∷ ys → k < length xs
@@ -157,7 +152,7 @@ module _ {stage : Stage Content} (s : Scheduler) {told : Told} (h : IsReadyAt st
         )
 
   -- a node is to be pushed
-  module _ (node : Node) (to : ℕ) (why : Why) (gone : Gone)
+  module _ {node : Node} {to : ℕ} {why : Why} {gone : Gone}
       (now : stage ≡ Routed (Pushing node to) why gone) where
     pub push-target : IsScheduler s.config.schedulers to
     push-target = (calls.push-target s.config s.trace.now h.config h.trace w reached me
@@ -173,7 +168,7 @@ module _ {stage : Stage Content} (s : Scheduler) {told : Told} (h : IsReadyAt st
         to why gone (in_state (Routed (Pushing node to) why gone) now))
 
   -- a node is to be linked
-  module _ (node : Node) (to : ℕ) (why : Why) (gone : Gone)
+  module _ {node : Node} {to : ℕ} {why : Why} {gone : Gone}
       (now : stage ≡ Routed (Linking node to) why gone) where
     pub link-target : IsScheduler s.config.schedulers to
     link-target = calls.link-target s.config s.trace.now h.config h.trace w reached me
@@ -187,30 +182,6 @@ module _ {stage : Stage Content} (s : Scheduler) {told : Told} (h : IsReadyAt st
     link-unlinked = told-so (IsUnlinkedAt node to)
         (calls.link-unlinked s.config s.trace.now h.config h.trace w reached me number node
         to why gone (in_state (Routed (Linking node to) why gone) now))
-
-  -- the walk to which it belonged is to go on
-  module _ (node : Node) (to : ℕ) (gone : Gone)
-      (now : stage ≡ Routed (Linking node to) Walk gone) where
-    pub linked-can : migration e ≡ false → CanAllGo me s.instance s.passed.nodes
-    linked-can off =
-        goes-linked stage s h.config h.trace w reached h.actor off node to gone now
-
-    pub linked-suits : migration e ≡ false → (worked me s.instance s.passed.nodes).hand ≡ None
-        → SuitsNext (worked me s.instance s.passed.nodes).instance s
-    linked-suits off =
-        suits-linked stage s h.config h.trace w reached h.actor off node to gone now
-
-    pub linked-next : SuitsNext s.instance s
-    linked-next =
-        suits-after_link stage s h.config h.trace w reached h.actor node to gone now
-
-  -- the operation whose block is on its route is left
-  pub task-more : (route : Route Content) (task : Task) (gone : Gone)
-      → stage ≡ Routed route (For task) gone → HasMore s
-  task-more route task gone now =
-      let first = calls.task-first s.config s.trace.now h.config h.trace w reached me number
-      route task gone (in_state (Routed route (For task) gone) now) in
-      more first.0 first.1 first.2
 
   -- a name is to be given
   module _ (given : Named) (to : ℕ) (now : stage ≡ Giving given to) where
@@ -262,8 +233,7 @@ module _ {stage : Stage Content} (s : Scheduler) {told : Told} (h : IsReadyAt st
     -- the scheduler has gone on by the answer
     pub row-done : {t : Scheduler} (row : Row) (got : Answer) (at : Stage Content) → stage ≡ at
         → wants_at a.next at ≡ row → Did me row got told new
-        → actor_of t ≡ onward e me (after_row e me a got at)
-        → DidRow stage s t told new
+        → actor_of t ≡ onward e me (after_row e me a got at) → DidRow stage s t told new
     row-done row got at same want did is = record {
       row = row;
       got = got;
@@ -300,16 +270,9 @@ module _ {stage : Stage Content} (s : Scheduler) {told : Told} (h : IsReadyAt st
         u : Answered e me a TakeLink (Passes None) told new
         u = in-answered TakeLink (Passes None) did
 
-        pub passed-can : migration e ≡ false → CanAllGo me s.instance nodes
-        passed-can off = subst (CanAllGo me s.instance) (sym are)
-            (goes-passed stage s h.config h.trace (run e u.turns) (u.turns, refl) u.actor off node
-            None begin next (sym u.answered))
-
-        pub passed-suits : migration e ≡ false → (worked me s.instance nodes).hand ≡ None
-            → SuitsNext (worked me s.instance nodes).instance s
-        passed-suits off = subst (λ ns. (worked me s.instance ns).hand ≡ None
-            → SuitsNext (worked me s.instance ns).instance s) (sym are)
-            (suits-passed stage s h.config h.trace (run e u.turns) (u.turns, refl) u.actor off node
+        pub passed-works : CanWorkOff s nodes
+        passed-works = subst (CanWorkOff s) (sym are)
+            (works-passed stage s h.config h.trace (run e u.turns) (u.turns, refl) u.actor node
             None begin next (sym u.answered))
 
         ended-is : worked_off e me nodes (record a { passed = nodes; next = None })

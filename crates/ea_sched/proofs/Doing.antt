@@ -273,8 +273,7 @@ module _ (c : Config) (t : Trace) (me count : ℕ) (a b : Actor) (told new : Tol
 -- so the scheduler is ready again
 pub step-ready : (s t : Scheduler) (count : ℕ) (told new : Told) → t.config ≡ s.config
     → t.trace ≡ s.trace → t.number ≡ s.number → IsReady s told
-    → Stepped s.config s.trace.now s.number count (actor_of s) (actor_of t) told new
-    → IsReady t new
+    → Stepped s.config s.trace.now s.number count (actor_of s) (actor_of t) told new → IsReady t new
 step-ready s t count told new config trace number h took =
     subst (λ n. Ready t.config t.trace.now n (actor_of t) new) (sym number)
     (subst (λ (x : Bor Trace). Ready t.config x.now s.number (actor_of t) new) (sym trace)

@@ -12,11 +12,9 @@ pub mod Texts
 pub mod AfterWalk
 pub mod CarrierCalling
 pub mod Carrying
-pub mod InHand
 pub mod Routing
 pub mod Suiting
 pub mod Calling
 pub mod WalkSuiting
 pub mod NamesBrought
-pub mod RouteEnds
 pub mod LooksInRow

@@ -22,17 +22,14 @@ use Rattle.ea_machine.specs.declared.nodes.Named.{Named}
 use Rattle.ea_machine.specs.declared.stages.Route.TheVariants.{Abandoning}
 use Rattle.ea_machine.specs.declared.tasks.Gone.{Gone}
 use Rattle.ea_machine.specs.declared.tasks.Gone.TheVariants.{Here}
-use Rattle.ea_machine.specs.declared.tasks.Why.{Why}
 use Rattle.ea_machine.specs.Actor.{Actor}
 use Rattle.ea_machine.specs.Releases.{abandoned_if, after_release}
 use Rattle.ea_machine.specs.Releases.{after_release_by, dismissed, ends}
-use Rattle.ea_machine.specs.Releases.{Turned, first_gone, goes_on, leaving, lightened}
+use Rattle.ea_machine.specs.Releases.{first_gone, goes_on, leaving, lightened}
 use Rattle.ea_machine.specs.Releases.{employed_by, looked, pooled_by, release_here, sent_to}
 use Rattle.ea_machine.specs.declared.owners.OwnerWord.{OwnerWord}
 use Rattle.ea_machine.specs.declared.owners.OwnerWord.TheVariants as word
 use Rattle.ea_machine.specs.Setup.{Setup}
-use Rattle.ea_sched.specs.declared.state.Scheduler.{Scheduler}
-use Rattle.ea_sched.specs.Turning.{HasTurned}
 
 -- one that is to be deallocated isn't the main one, and has no blocks
 pub vacant-is : (o : Option Content) → option_map_or is_vacant o false ≡ true
@@ -125,28 +122,23 @@ there-is None is = absurd cc
 there-is (Some x) is = (x, refl)
 
 -- a block is released: `i` is the instance then, and `g` what became of the block
-module _ (e : Setup) (me : ℕ) (why : Why) (hand : Named) (gone g : Gone) (a : Actor)
-    (i : Instance) (over : Option Gone) (t : Scheduler)
+module _ (e : Setup) (me : ℕ) (hand : Named) (gone g : Gone) (a : Actor) (i : Instance)
     (after : i ≡ releasing_at a.instance hand.spot) (here : g ≡ first_gone gone Here) where
   abbrev n : ℕ
   n = hand.spot.carrier
-
-  abbrev Ends : Turned → Type 0
-  Ends u = HasTurned why u over t
 
   abbrev found : Option Content
   found = content_of (employed i) n
 
   -- by what the release makes of the carrier
-  release-by : (x : Content) (u : Turned) → found ≡ Some x
-      → after_release_by e me x.kind x g (record a { instance = i }) ≡ u → Ends u
-      → Ends (release_here e me hand gone a)
-  release-by x u q made holds = subst Ends (sym made
-      ∙ ap (λ h. after_release_by e me x.kind x h (record a { instance = i })) here
+  release-by : (x : Content) → found ≡ Some x
+      → after_release_by e me x.kind x g (record a { instance = i })
+      ≡ release_here e me hand gone a
+  release-by x q = ap (λ h. after_release_by e me x.kind x h (record a { instance = i })) here
       ∙ ap (λ j. after_release_by e me x.kind x (first_gone gone Here) (record a { instance = j }))
       after
       ∙ sym (released-is e me hand gone a x
-      (subst (λ j. content_of (employed j) n ≡ Some x) after q))) holds
+      (subst (λ j. content_of (employed j) n ≡ Some x) after q))
 
   -- the carrier, of which one is in the hand
   module _ (y : Content) (j : Instance) (q : found ≡ Some y) (left : j ≡ dismissing i n) where
@@ -155,34 +147,34 @@ module _ (e : Setup) (me : ℕ) (why : Why) (hand : Named) (gone g : Gone) (a : 
         (left
         ∙ ap (dismissing i) (sym (item_at-key (λ (c : Content). c.number) n y (employed i) q)))
 
-    pub vacant-turned : has_vacant n (employed i) ≡ true
-        → Ends (leaving e me y g (record a { instance = j })) → Ends (release_here e me hand gone a)
-    vacant-turned vacant =
+    pub vacant-released : has_vacant n (employed i) ≡ true
+        → leaving e me y g (record a { instance = j }) ≡ release_here e me hand gone a
+    vacant-released vacant =
         let (x, same, goes, nil) = vacant-is found vacant in
         let is : x ≡ y = same-some found x y same q in
-        release-by y (leaving e me y g (record a { instance = j })) q
-        (vacant-leaves e me y g (record a { instance = i }) y.kind
+        ap (leaving e me y g) dismissed-is
+        ∙ sym (vacant-leaves e me y g (record a { instance = i }) y.kind
         (ap (λ (c : Content). can_go c.kind) (sym is) ∙ goes)
-        (ap (λ (c : Content). is_nil c.blocks) (sym is) ∙ nil)
-        ∙ ap (leaving e me y g) (sym dismissed-is))
+        (ap (λ (c : Content). is_nil c.blocks) (sym is) ∙ nil))
+        ∙ release-by y q
 
-    pub due-turned : is_due e.settings i.contents y ≡ true
-        → Ends (goes_on (Abandoning y) g (record a { instance = j }))
-        → Ends (release_here e me hand gone a)
-    due-turned due = release-by y (goes_on (Abandoning y) g (record a { instance = j })) q
-        (due-abandons e me y g (record a { instance = i }) y.kind (due-multi e.settings i y due)
-        (due-some e.settings i y due) due
-        ∙ ap (goes_on (Abandoning y) g) (sym dismissed-is))
+    pub due-released : is_due e.settings i.contents y ≡ true
+        → goes_on (Abandoning y) g (record a { instance = j }) ≡ release_here e me hand gone a
+    due-released due = ap (goes_on (Abandoning y) g) dismissed-is
+        ∙ sym (due-abandons e me y g (record a { instance = i }) y.kind
+        (due-multi e.settings i y due) (due-some e.settings i y due) due)
+        ∙ release-by y q
 
-  pub stays-turned : (x : Content) → found ≡ Some x → has_vacant n (employed i) ≡ false
+  pub stays-released : (x : Content) → found ≡ Some x → has_vacant n (employed i) ≡ false
       → IfSome found (λ c. c.kind ≡ Single → c.blocks ≡ [])
-      → is_due e.settings i.contents x ≡ false → Ends (ends g (record a { instance = i }))
-      → Ends (release_here e me hand gone a)
-  stays-turned x q keeps alone due = release-by x (ends g (record a { instance = i })) q
-      (stays-over e me x g (record a { instance = i }) x.kind
+      → is_due e.settings i.contents x ≡ false
+      → ends g (record a { instance = i }) ≡ release_here e me hand gone a
+  stays-released x q keeps alone due =
+      sym (stays-over e me x g (record a { instance = i }) x.kind
       (ap (λ o. option_map_or is_vacant o false) (sym q) ∙ keeps)
       (λ single. ap is_nil (subst (λ o. IfSome o (λ c. c.kind ≡ Single → c.blocks ≡ [])) q alone
       single)) due)
+      ∙ release-by x q
 
 -- the owner word that was read
 module _ (e : Setup) (me : ℕ) (hand : Named) (gone : Gone) (a : Actor) (v : OwnerWord) (i : ℕ) where

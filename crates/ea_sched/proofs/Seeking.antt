@@ -335,8 +335,7 @@ module _ {stage : Stage Content} (s : Scheduler) {told : Told} (h : IsReadyAt st
         below n own same = omega (arith, own, number.1, ap (λ k. NUMBERS * k) same)
 
     pub create-absent : IfSome told.shared (λ x. x.places p.number ≡ owners.Absent)
-    create-absent = if_some told.shared (λ x. x ≡ w.shared)
-        (λ x. x.places p.number ≡ owners.Absent)
+    create-absent = if_some told.shared (λ x. x ≡ w.shared) (λ x. x.places p.number ≡ owners.Absent)
         (λ x same. subst (λ (y : Shared). y.places p.number ≡ owners.Absent) (sym same)
         created-at.1) h.shares
 

@@ -1,15 +1,10 @@
 -- Where a scheduler stands shows that carriers migrate.
 use Rattle.std.proofs.Common.{◌≡◌, ℕ, Bor, true, false, refl, ap, ◌∙◌, subst}
-use Rattle.std.specs.Prelude.{Bool}
+use Rattle.std.specs.Prelude.{Bool, Option}
 use Rattle.ea_model.specs.declared.trace.Trace.{Trace}
 use Rattle.ea_model.specs.Content.{Content}
-use Rattle.ea_machine.specs.declared.nodes.Node.{Node}
-use Rattle.ea_machine.specs.declared.stages.Route.{Route}
-use Rattle.ea_machine.specs.declared.stages.Route.TheVariants.{Looking, Trying, Settling}
-use Rattle.ea_machine.specs.declared.stages.Route.TheVariants.{Abandoning, Sending}
-use Rattle.ea_machine.specs.declared.stages.Route.TheVariants.{Clearing, Pushing, Linking}
 use Rattle.ea_machine.specs.declared.stages.Stage.{Stage}
-use Rattle.ea_machine.specs.declared.stages.Stage.TheVariants.{Collecting, Ready}
+use Rattle.ea_machine.specs.declared.stages.Stage.TheVariants.{Ready}
 use Rattle.ea_machine.specs.Actor.{Actor}
 use Rattle.ea_machine.specs.Setup.{Setup, migration, setup_of}
 use Rattle.ea_machine.specs.Machine.{IsReached, run}
@@ -17,24 +12,11 @@ use Rattle.ea_machine.specs.State.{State}
 use Rattle.ea_shared.specs.Calls.{Told}
 use Rattle.ea_sound.specs.Present.{Fits}
 use Rattle.ea_sound.proofs.Asked.{reached-rule}
-use Rattle.ea_sound.proofs.OffStages.{IsOffRoute, IsOffStage, is-off}
+use Rattle.ea_sound.proofs.OffStages.{IsOffStage, is-off}
 use Rattle.ea_sound.proofs.SoundRanges.{number-scheduler}
 use Rattle.ea_sched.specs.declared.state.Scheduler.{Scheduler}
 use Rattle.ea_sched.specs.Acting.{IsSame, setup_for}
-use Rattle.ea_sched.specs.Steps.{IsReadyAt}
-
--- a route that is neither to push nor to link
-pub no-route : (route : Route Content) → IsOffRoute route
-    → ((node : Node) (to : ℕ) → route ≡ Pushing node to → ⊥)
-    → ((node : Node) (to : ℕ) → route ≡ Linking node to → ⊥) → ⊥
-no-route (Pushing node to) is push link = push node to refl
-no-route (Linking node to) is push link = link node to refl
-no-route (Looking hand) is push link = is
-no-route (Trying hand seen) is push link = is
-no-route (Settling x) is push link = is
-no-route (Abandoning x) is push link = is
-no-route (Sending x) is push link = is
-no-route (Clearing x) is push link = is
+use Rattle.ea_sched.specs.Steps.{IsReadyAt, StartsRow}
 
 -- a scheduler that is ready for its row, at a stage
 module _ {stage : Stage Content} (s : Scheduler) {told : Told} (h : IsReadyAt stage s told) where
@@ -72,16 +54,12 @@ module _ {stage : Stage Content} (s : Scheduler) {told : Told} (h : IsReadyAt st
       subst (Fits e w s.number (w.actors s.number)) (in-state ∙ is)
       (rule.present.fits s.number)
 
--- at a carrier that came home
-pub home-on : (n : ℕ) (s : Scheduler) {told : Told}
-    → IsReadyAt (Collecting n) s told → migration (setup_for s) ≡ true
-home-on n s h = stands-on s h (λ off. off)
+-- so do those of what is shared
+pub moves-on : {stage : Stage Content} {told : Told} (s : Scheduler) → StartsRow stage s told
+    → (IsOffStage stage → ⊥) → told.migrates ≡ true
+moves-on s starts never = starts.migrates ∙ stands-on s starts.ready never
 
 -- it stays in the same run
 pub same-setup : (s t : Scheduler) → IsSame s t → setup_for t ≡ setup_for s
 same-setup s t same = ap (λ c. setup_of c t.trace.now) same.config
     ∙ ap (λ (r : Bor Trace). setup_of s.config r.now) same.trace
-
--- what it knows of migration, it knows after the row too
-pub same-migrates : (s t : Scheduler) → IsSame s t → t.migrates ≡ migration (setup_for s)
-same-migrates s t same = t.migrates_so ∙ ap migration (same-setup s t same)

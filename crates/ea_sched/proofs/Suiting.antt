@@ -1,28 +1,26 @@
 -- A scheduler can work off the nodes that its walk passed, where carriers don't migrate, and once
 -- its walk is over it may do its next operation.
 use Rattle.std.proofs.Common.{◌≡◌, ℕ, Bool, true, false, List, []}
-use Rattle.std.proofs.Common.{◌∷◌, refl, sym, ap, ◌∙◌, subst}
+use Rattle.std.proofs.Common.{◌∷◌, drop, refl, sym, ap, ◌∙◌, subst}
 use Rattle.std.specs.Prelude.{◌==◌, Option, None, Some, IfSome}
 use Rattle.std.proofs.lemmas.Bool.{eqb-true}
 use Rattle.ea_model.specs.declared.carriers.Kind.TheVariants.{Single}
 use Rattle.ea_model.specs.declared.carriers.Spot.{Spot}
 use Rattle.ea_model.specs.Content.{Content}
-use Rattle.ea_model.specs.Instance.{Instance, content_of, employed, owner_of, releasing_at}
+use Rattle.ea_model.specs.Instance.{content_of, employed, owner_of, releasing_at}
 use Rattle.ea_model.specs.Settings.{IsValidConfig}
 use Rattle.ea_model.specs.Trace.{IsScheduler, IsValidTrace}
 use Rattle.ea_machine.specs.declared.nodes.Named.{Named}
 use Rattle.ea_machine.specs.declared.nodes.Node.{Node}
 use Rattle.ea_machine.specs.declared.nodes.Node.TheVariants.{Block, Carrier}
-use Rattle.ea_machine.specs.declared.tasks.Gone.{Gone}
 use Rattle.ea_machine.specs.declared.tasks.Why.TheVariants.{Walk}
 use Rattle.ea_machine.specs.declared.stages.Stage.{Stage}
-use Rattle.ea_machine.specs.declared.stages.Stage.TheVariants.{Begin, Routed}
+use Rattle.ea_machine.specs.declared.stages.Stage.TheVariants.{Begin}
 use Rattle.ea_machine.specs.declared.stages.Route.{Route}
-use Rattle.ea_machine.specs.declared.stages.Route.TheVariants.{Linking}
 use Rattle.ea_machine.specs.Actor.{Actor}
 use Rattle.ea_machine.specs.Machine.{IsReached}
 use Rattle.ea_machine.specs.Releases.{Turned, route_of}
-use Rattle.ea_machine.specs.Rows.{Link, Passes, Rests, TakeAll, TakeLink}
+use Rattle.ea_machine.specs.Rows.{Passes, Rests, TakeAll, TakeLink}
 use Rattle.ea_machine.specs.Setup.{Setup, is_scheduler, migration}
 use Rattle.ea_machine.specs.Shared.{Shared}
 use Rattle.ea_machine.specs.State.{State}
@@ -31,14 +29,14 @@ use Rattle.ea_machine.specs.Tasks.{carried_by}
 use Rattle.ea_machine.specs.Walks.{with_passed}
 use Rattle.ea_sound.specs.Leaves.{InWalk}
 use Rattle.ea_sound.specs.Moments.{at}
-use Rattle.ea_sound.proofs.OffWalks.{link-walks, passed-carrier, passed-emptied, passed-here}
+use Rattle.ea_sound.proofs.OffWalks.{passed-carrier, passed-emptied, passed-here}
 use Rattle.ea_sound.proofs.OffWalks.{passed-own, take_all-walks, take_link-passes}
 use Rattle.ea_sound.proofs.OffWalks.{take_link-rests}
 use Rattle.ea_sound.proofs.OffWalks.{walk-held, walk-on}
 use Rattle.ea_sound.proofs.SoundRanges.{number-scheduler}
 use Rattle.ea_sched.specs.declared.state.Scheduler.{Scheduler}
 use Rattle.ea_sched.specs.Acting.{actor_of, setup_for, standing_at}
-use Rattle.ea_sched.specs.Asking.{SuitsNext}
+use Rattle.ea_sched.specs.Asking.{CanWorkOff, SuitsNext}
 use Rattle.ea_sched.proofs.AfterWalk.{suits-next}
 use Rattle.ea_sound.specs.Releasing.{freed_at}
 use Rattle.ea_sound.specs.Walking.{CanAllGo, CanGo, Worked, left_if, worked, worked_if}
@@ -138,6 +136,29 @@ module _ (e : Setup) (v : State) (s : Shared) (me : ℕ) (is : is_scheduler e me
   worked-walks (Carrier d ∷ ns) a walks none = absurd
       (passed-carrier e v s me is off (record a { passed = Carrier d ∷ ns }) walks d ns refl)
 
+-- a scheduler that has these operations left in a reached state, and is in its walk
+module _ (s : Scheduler) (valid : IsValidConfig s.config)
+    (made : IsValidTrace s.config.schedulers s.trace.now) (w : State)
+    (reached : IsReached (setup_for s) w)
+    (todo : (w.actors s.number).todo ≡ drop s.done s.text.now) (part : Shared) (ns : List Node)
+    (walks : InWalk (setup_for s) w part s.number
+    (at Begin (record (actor_of s) { passed = ns }))) where
+  is : is_scheduler (setup_for s) s.number ≡ true
+  is = number-scheduler (setup_for s) s.number (s.number_from, s.number_to)
+
+  off : s.migrates ≡ false → migration (setup_for s) ≡ false
+  off stays = sym s.migrates_so ∙ stays
+
+  -- it can work these nodes off
+  pub can-work_off : CanWorkOff s ns
+  can-work_off = record {
+    passed = λ stays. can-all (setup_for s) w part s.number is (off stays) ns (actor_of s) walks;
+    next = λ stays none. suits-next s valid made w reached todo w part
+        (worked s.number s.instance ns).instance []
+        (worked-walks (setup_for s) w part s.number is (off stays) ns (actor_of s) walks none);
+    next_on = λ on none. suits-next s valid made w reached todo w part s.instance ns walks;
+  }
+
 -- a scheduler that stands so in a reached state, at a stage
 module _ (stage : Stage Content) (s : Scheduler) (valid : IsValidConfig s.config)
     (made : IsValidTrace s.config.schedulers s.trace.now) (w : State)
@@ -151,12 +172,8 @@ module _ (stage : Stage Content) (s : Scheduler) (valid : IsValidConfig s.config
   number : IsScheduler s.config.schedulers me
   number = (s.number_from, s.number_to)
 
-  -- after a walk it may do the next operation
-  after-walk : (part : Shared) (i : Instance) (ns : List Node)
-      → InWalk e w part me (at Begin (record (actor_of s) { instance = i; passed = ns }))
-      → SuitsNext i s
-  after-walk part i ns walks =
-      suits-next s valid made w reached (ap (λ (a : Actor). a.todo) here) w part i ns walks
+  todo : (w.actors me).todo ≡ drop s.done s.text.now
+  todo = ap (λ (a : Actor). a.todo) here
 
   begins : stage ≡ Begin → (w.actors me).stage ≡ Begin
   begins begin = ap (λ (a : Actor). a.stage) here ∙ begin
@@ -168,7 +185,7 @@ module _ (stage : Stage Content) (s : Scheduler) (valid : IsValidConfig s.config
   pub suits-taken : stage ≡ Begin → s.next ≡ None → SuitsNext s.instance s
   suits-taken begin none =
       let part = effect me TakeAll w.shared in
-      after-walk part s.instance s.passed.nodes
+      suits-next s valid made w reached todo w part s.instance s.passed.nodes
       (subst (λ a. InWalk e w part me (at Begin a)) here
       (take_all-walks s.config s.trace.now valid made w reached me number (begins begin)
       (next-is None none)))
@@ -178,66 +195,23 @@ module _ (stage : Stage Content) (s : Scheduler) (valid : IsValidConfig s.config
       → answer s.number TakeLink w.shared ≡ Rests → SuitsNext s.instance s
   suits-rests node begin next rests =
       let part = effect me TakeLink w.shared in
-      after-walk part s.instance s.passed.nodes
+      suits-next s valid made w reached todo w part s.instance s.passed.nodes
       (subst (λ a. InWalk e w part me (at Begin a)) here
       (take_link-rests s.config s.trace.now valid made w reached me number node (begins begin)
       (next-is (Some node) next) rests))
 
-  -- a node of its walk was pushed to another's queue and linked there
-  module _ (node : Node) (to : ℕ) (gone : Gone)
-      (now : stage ≡ Routed (Linking node to) Walk gone) where
-    linked-walks : InWalk e w (effect me (Link node to) w.shared) me (at Begin (actor_of s))
-    linked-walks = subst (λ a. InWalk e w (effect me (Link node to) w.shared) me (at Begin a)) here
-        (link-walks s.config s.trace.now valid made w reached me number node to gone
-        (ap (λ (a : Actor). a.stage) here ∙ now))
+  -- its walk passed its next node
+  module _ (node : Node) (older : Option Node) (begin : stage ≡ Begin)
+      (next : s.next ≡ Some node)
+      (passes : answer s.number TakeLink w.shared ≡ Passes older) where
+    abbrev after_link : Shared
+    after_link = effect me TakeLink w.shared
 
-    pub suits-after_link : SuitsNext s.instance s
-    suits-after_link = after-walk (effect me (Link node to) w.shared) s.instance s.passed.nodes
-        linked-walks
-
-  -- where carriers don't migrate
-  module _ (off : migration e ≡ false) where
-    is : is_scheduler e me ≡ true
-    is = number-scheduler e me number
-
-    -- its walk passed its next node
-    module _ (node : Node) (older : Option Node) (begin : stage ≡ Begin)
-        (next : s.next ≡ Some node)
-        (passes : answer s.number TakeLink w.shared ≡ Passes older) where
-      abbrev after_link : Shared
-      after_link = effect me TakeLink w.shared
-
-      abbrev nodes : List Node
-      nodes = node ∷ s.passed.nodes
-
-      passed-walks : InWalk e w after_link me (at Begin (record (actor_of s) { passed = nodes }))
-      passed-walks =
-          subst (λ o. InWalk e w after_link me
-          (at Begin (record (actor_of s) { passed = with_passed o s.passed.nodes }))) next
-          (subst (λ (a : Actor). InWalk e w after_link me
-          (at Begin (record a { passed = with_passed a.next a.passed }))) here
-          (take_link-passes s.config s.trace.now valid made w reached me number node older
-          (begins begin)
-          (next-is (Some node) next) passes))
-
-      pub goes-passed : CanAllGo s.number s.instance (node ∷ s.passed.nodes)
-      goes-passed = can-all e w after_link me is off nodes (actor_of s) passed-walks
-
-      pub suits-passed : (worked s.number s.instance (node ∷ s.passed.nodes)).hand ≡ None
-          → SuitsNext (worked s.number s.instance (node ∷ s.passed.nodes)).instance s
-      suits-passed none = after-walk after_link (worked me s.instance nodes).instance []
-          (worked-walks e w after_link me is off nodes (actor_of s) passed-walks none)
-
-    -- a node of its walk was pushed to another's queue and linked there
-    module _ (node : Node) (to : ℕ) (gone : Gone)
-        (now : stage ≡ Routed (Linking node to) Walk gone) where
-      pub goes-linked : CanAllGo s.number s.instance s.passed.nodes
-      goes-linked = can-all e w (effect me (Link node to) w.shared) me is off s.passed.nodes
-          (actor_of s) (linked-walks node to gone now)
-
-      pub suits-linked : (worked s.number s.instance s.passed.nodes).hand ≡ None
-          → SuitsNext (worked s.number s.instance s.passed.nodes).instance s
-      suits-linked none = after-walk (effect me (Link node to) w.shared)
-          (worked me s.instance s.passed.nodes).instance []
-          (worked-walks e w (effect me (Link node to) w.shared) me is off s.passed.nodes
-          (actor_of s) (linked-walks node to gone now) none)
+    pub works-passed : CanWorkOff s (node ∷ s.passed.nodes)
+    works-passed = can-work_off s valid made w reached todo after_link (node ∷ s.passed.nodes)
+        (subst (λ o. InWalk e w after_link me
+        (at Begin (record (actor_of s) { passed = with_passed o s.passed.nodes }))) next
+        (subst (λ (a : Actor). InWalk e w after_link me
+        (at Begin (record a { passed = with_passed a.next a.passed }))) here
+        (take_link-passes s.config s.trace.now valid made w reached me number node older
+        (begins begin) (next-is (Some node) next) passes)))

@@ -1,6 +1,6 @@
 -- What the local work of a scheduler asks for, of its instance and of the names that it holds.
 use Rattle.std.specs.Prelude.{◌≡◌, ℕ, ◌+◌, ◌%◌, ◌^◌, ◌<◌, ◌≤◌, Bool, true, false, List}
-use Rattle.std.specs.Prelude.{◌∷◌, None, IfSome, IsSome, drop, length}
+use Rattle.std.specs.Prelude.{[], ◌∷◌, None, IfSome, IsSome, drop, length}
 use Rattle.ea_model.specs.declared.operations.Op.{Op}
 use Rattle.ea_model.specs.declared.operations.Op.TheVariants.{Alloc, Free, Realloc}
 use Rattle.ea_model.specs.declared.operations.Op.TheVariants.{Give, Take, Info, Idle}
@@ -9,9 +9,11 @@ use Rattle.ea_model.specs.Instance.{Instance, block_in, employed, has_content, o
 use Rattle.ea_model.specs.Instance.{owner_of}
 use Rattle.ea_machine.specs.declared.asks.Ask.{Ask}
 use Rattle.ea_machine.specs.declared.nodes.Named.{Named}
+use Rattle.ea_machine.specs.declared.nodes.Node.{Node}
 use Rattle.ea_machine.specs.Nodes.{named_at, spot_named}
 use Rattle.ea_names.specs.Holding.{Holding, has_place}
 use Rattle.ea_sched.specs.declared.state.Scheduler.{Scheduler}
+use Rattle.ea_sound.specs.Walking.{CanAllGo, worked}
 
 -- an operation is left
 abbrev pub HasMore : Scheduler → Type 0
@@ -73,3 +75,10 @@ module _ (i : Instance) (s : Scheduler) where
   -- the next operation may be the next one, if one is left
   abbrev pub SuitsNext : Type 0
   SuitsNext = (o : Op) (ops : List Op) → drop s.done s.text.now ≡ o ∷ ops → Suits o
+
+-- these nodes of its walk may be worked off, and then the next operation may be the next one
+pub record CanWorkOff (s : Scheduler) (nodes : List Node) : Type 0 where
+  pub passed : s.migrates ≡ false → CanAllGo s.number s.instance nodes
+  pub next : s.migrates ≡ false → (worked s.number s.instance nodes).hand ≡ None
+      → SuitsNext (worked s.number s.instance nodes).instance s
+  pub next_on : s.migrates ≡ true → nodes ≡ [] → SuitsNext s.instance s

@@ -1,5 +1,5 @@
 -- Steps that plan a multiblock carrier: for want of memory only these fail.
-use Rattle.std.specs.Prelude.{◌≡◌, ◌≢◌, ℕ, ◌+◌, false, List, Option, None, Some, IfSome, Ok}
+use Rattle.std.specs.Prelude.{◌≡◌, ◌≢◌, ℕ, ◌+◌, false, List, Option, IfSome, Ok}
 use Rattle.ea_model.specs.declared.carriers.CarrierPlan.{CarrierPlan}
 use Rattle.ea_model.specs.declared.settings.Config.{Config}
 use Rattle.ea_model.specs.declared.trace.Trace.{Trace}
@@ -9,14 +9,11 @@ use Rattle.ea_model.specs.Instance as instances
 use Rattle.ea_machine.specs.declared.asks.Ask.{Ask}
 use Rattle.ea_machine.specs.declared.stages.Stage.{Stage}
 use Rattle.ea_machine.specs.declared.stages.Stage.TheVariants.{Creating}
-use Rattle.ea_machine.specs.declared.tasks.Gone.{Gone}
-use Rattle.ea_machine.specs.declared.tasks.Why.{Why}
 use Rattle.ea_machine.specs.Actor.{Actor}
-use Rattle.ea_machine.specs.Machine.{onward, run, step}
+use Rattle.ea_machine.specs.Machine.{run, step}
 use Rattle.ea_machine.specs.Placements.{making}
 use Rattle.ea_machine.specs.Setup.{Setup, migration, setup_of}
 use Rattle.ea_machine.specs.Statistics.{observed}
-use Rattle.ea_machine.specs.Walks.{after_route}
 use Rattle.ea_shared.specs.Calls.{KnowsFront, Told}
 use Rattle.ea_sched.specs.declared.state.Scheduler.{Scheduler}
 use Rattle.ea_sched.specs.Acting.{setup_for, standing_at}
@@ -53,10 +50,3 @@ PlansAt stage s told = Plans s.config s.trace.now s.number (standing_at stage s)
 -- the actor has planned one that the scheduler's instance is to create next
 abbrev pub PlansFrom : Scheduler → Actor → Type 0
 PlansFrom s a = HasPlanned (setup_for s) s.number s.instance a
-
--- what comes after a route that is over plans one; where none is over nothing does
-abbrev pub PlansAfter : Setup → ℕ → Why → Option Gone → Scheduler → Type 0
-PlansAfter setup me why None s = ⊥
-PlansAfter setup me why (Some gone) s = (at : Stage Content)
-    → HasPlanned setup me s.instance
-    (onward setup me (after_route setup me why gone (standing_at at s)))

@@ -3,7 +3,7 @@ pub mod Acting
 pub mod Steps
 pub mod Prepared
 pub mod Creations
-pub mod Turning
+pub mod Routes
 pub mod Asking
 pub mod Brought
 pub mod Looks

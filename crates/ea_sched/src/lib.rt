@@ -8,6 +8,8 @@ mod operations;
 mod passed;
 mod placements;
 mod releases;
+mod route_rows;
+mod route_steps;
 mod routes;
 mod rows;
 mod scheduler;
@@ -15,8 +17,6 @@ mod searches;
 mod state;
 mod step;
 mod stops;
-mod turning;
-mod turns;
 mod walks;
 
 pub use migration::migrates;

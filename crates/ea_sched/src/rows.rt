@@ -1,13 +1,15 @@
-//! The rows of the machine's table, each with what a scheduler does once it is answered.
-ghost use Rattle.std.specs.Prelude.{◌≡◌, Some, None, OnErr, OnOk, false};
-ghost use Rattle.ea_sched.specs.Acting.{IsSame, setup_for};
+//! The rows that are on no route and in no search, each with what a scheduler does once it is
+//! answered.
+ghost use Rattle.std.specs.Prelude.{◌≡◌, Some, None, OnErr, OnOk};
+ghost use Rattle.ea_sched.specs.Acting.{IsSame};
 ghost use Rattle.ea_sched.specs.Creations.{PlansAt};
+ghost use Rattle.ea_sched.specs.Routes.{CollectedRow};
 ghost use Rattle.ea_sched.specs.Steps.{DidRow, StartsRow};
 ghost use Rattle.ea_machine.specs.declared.stages.Stage.TheVariants as stage;
-ghost use Rattle.ea_machine.specs.declared.stages.Route.TheVariants as route;
 
 use crate::state::Scheduler;
-use ea_machine::{Gone, Named, Node, Route, Stage, Why};
+use ea_instance::Held;
+use ea_machine::{Named, Node};
 use ea_mbc::Mbc;
 use ea_model::OutOfMemory;
 use ea_shared::{Link, Shared};
@@ -70,55 +72,38 @@ impl<'t> Scheduler<'t> {
         }
     }
 
-    /// The node of a block is pushed to the queue of the instance that employs its carrier.
-    pub(crate) fn push<S: Shared<Content = Mbc>>(
-        &mut self,
-        shared: &mut S,
-        node: Node,
-        to: u32,
-        why: Why,
-        gone: Gone,
-    )
-        requires starts { StartsRow (stage.Routed (route.Pushing node to) why gone) self.old
-            (S.told shared.old) }
+    /// A carrier of the scheduler's own that came home is cleared: its number and pages are free
+    /// again.
+    fn collect<S: Shared<Content = Mbc>>(&mut self, shared: &mut S, number: u32)
+        requires starts { StartsRow (stage.Collecting number) self.old (S.told shared.old) }
         ensures stays { S.stays shared.old shared.new }
         ensures same { IsSame self.old self.new }
-        ensures row { DidRow (stage.Routed (route.Pushing node to) why gone) self.old self.new
-            (S.told shared.old) (S.told shared.new) }
+        ensures row { CollectedRow number self.old self.new (S.told shared.old)
+            (S.told shared.new) }
     {
-        shared.push(self.number, to, node);
-        let route = Route::Linking { node, to };
-        self.stage = Stage::Routed { route, why, gone };
+        let content = Held::multi(shared.clear_returned(self.number, number));
+        self.lists.remove(number);
+        self.instance.disown(number);
+        self.instance.discard(content);
     }
 
-    /// The pushed node is linked to the older ones, and the block is gone: its walk goes on, or its
-    /// operation is over.
-    pub(crate) fn link<S: Shared<Content = Mbc>>(
+    /// A carrier that came home is collected, and the walk that brought it goes on.
+    pub(crate) fn receive<S: Shared<Content = Mbc>>(
         &mut self,
         alloc: Global,
         shared: &mut S,
-        node: Node,
-        to: u32,
-        why: Why,
-        gone: Gone,
+        number: u32,
     ) -> Result<(), OutOfMemory>
-        requires starts { StartsRow (stage.Routed (route.Linking node to) why gone) self.old
-            (S.told shared.old) }
+        requires starts { StartsRow (stage.Collecting number) self.old (S.told shared.old) }
         ensures stays { S.stays shared.old shared.new }
         ensures same { IsSame self.old self.new }
-        ensures row { OnOk result (DidRow (stage.Routed (route.Linking node to) why gone) self.old
-            self.new (S.told shared.old) (S.told shared.new)) }
-        ensures memory { OnErr result (PlansAt (stage.Routed (route.Linking node to) why gone)
-            self.old (S.told shared.old)) }
+        ensures row { OnOk result (DidRow (stage.Collecting number) self.old self.new
+            (S.told shared.old) (S.told shared.new)) }
+        ensures memory { OnErr result (PlansAt (stage.Collecting number) self.old
+            (S.told shared.old)) }
     {
-        shared.link(self.number, to, node);
-        match why {
-            Why::Walk => self.end_walk(alloc),
-            Why::For { task } => {
-                self.finish_task(task, gone);
-                Ok(())
-            }
-        }
+        self.collect(shared, number);
+        self.end_walk(alloc)
     }
 
     /// A held name is given, to whoever takes it.

@@ -54,7 +54,7 @@ impl<'t> Scheduler<'t> {
                 None => self.take_queue(alloc, shared),
                 Some(node) => self.pass(alloc, shared, node),
             },
-            Stage::Routed { route, why, gone } => self.turn(alloc, shared, route, why, gone),
+            Stage::Routed { route, why, gone } => self.go_route(alloc, shared, route, why, gone),
             Stage::Collecting { number } => self.receive(alloc, shared, number),
             Stage::Fetching {
                 ask,

@@ -1,9 +1,9 @@
 //! The walk through the nodes of a scheduler's queue, and how they are worked off.
-ghost use Rattle.std.specs.Prelude.{◌≡◌, true, false, [], None, OnErr, OnOk};
+ghost use Rattle.std.specs.Prelude.{◌≡◌, true, false, OnErr, OnOk};
 ghost use Rattle.ea_machine.specs.Machine as machine;
 ghost use Rattle.ea_machine.specs.Walks as walks;
 ghost use Rattle.ea_sched.specs.Acting.{IsSame, actor_of, ready_of, setup_for, standing_at};
-ghost use Rattle.ea_sched.specs.Asking.{CanCount, SuitsNext};
+ghost use Rattle.ea_sched.specs.Asking.{CanCount, CanWorkOff, SuitsNext};
 ghost use Rattle.ea_sched.specs.Creations.{PlansFrom};
 ghost use Rattle.ea_sched.specs.Passing.{stage_for};
 ghost use Rattle.ea_sound.specs.Walking.{CanAllGo, worked};
@@ -78,7 +78,7 @@ impl<'t> Scheduler<'t> {
     /// employs the carrier of a block, and a carrier that came home is to be collected. Where no
     /// node is left, it goes on with the operation itself.
     fn work_oldest(&mut self, alloc: Global) -> Result<(), OutOfMemory>
-        requires next { self.old.passed.nodes ≡ [] → SuitsNext self.old.instance self.old }
+        requires walk { CanWorkOff self.old self.old.passed.nodes }
         requires on { self.old.migrates ≡ true }
         requires counts { CanCount self.old.instance }
         ensures actor { OnOk result ((at : _) → actor_of self.new ≡ machine.onward
@@ -102,10 +102,7 @@ impl<'t> Scheduler<'t> {
     /// Where carriers don't migrate: works off the nodes that its walk passed, and goes on with the
     /// operation itself, unless the block of one goes to another instance's queue.
     fn work_all(&mut self, alloc: Global) -> Result<(), OutOfMemory>
-        requires passed { CanAllGo self.old.number self.old.instance self.old.passed.nodes }
-        requires next { (worked self.old.number self.old.instance self.old.passed.nodes).hand ≡ None
-            → SuitsNext (worked self.old.number self.old.instance self.old.passed.nodes).instance
-            self.old }
+        requires walk { CanWorkOff self.old self.old.passed.nodes }
         requires off { self.old.migrates ≡ false }
         requires counts { CanCount self.old.instance }
         ensures actor { OnOk result ((at : _) → actor_of self.new ≡ machine.onward
@@ -129,14 +126,7 @@ impl<'t> Scheduler<'t> {
     /// Works off the nodes that its walk passed, up to the first that takes a row of its own, and
     /// goes on with the operation itself where none does.
     pub(crate) fn end_walk(&mut self, alloc: Global) -> Result<(), OutOfMemory>
-        requires passed { self.old.migrates ≡ false
-            → CanAllGo self.old.number self.old.instance self.old.passed.nodes }
-        requires next { self.old.migrates ≡ false
-            → (worked self.old.number self.old.instance self.old.passed.nodes).hand ≡ None
-            → SuitsNext (worked self.old.number self.old.instance self.old.passed.nodes).instance
-            self.old }
-        requires next_on { self.old.migrates ≡ true → self.old.passed.nodes ≡ []
-            → SuitsNext self.old.instance self.old }
+        requires walk { CanWorkOff self.old self.old.passed.nodes }
         requires counts { CanCount self.old.instance }
         ensures actor { OnOk result ((at : _) → actor_of self.new ≡ machine.onward
             (setup_for self.old) self.old.number (walks.worked_off (setup_for self.old)

@@ -20,9 +20,9 @@ use Rattle.ea_shared.specs.Carriers.{IsCarrier, home_of}
 use Rattle.ea_word.specs.declared.owners.TheConstants.{BUSY_STATE, EMPLOYED_STATE, INSTANCE_SHIFT}
 use Rattle.ea_word.specs.declared.owners.TheConstants.{LARGEST_SHIFT, MAX_CODED_INSTANCE}
 use Rattle.ea_word.specs.declared.owners.TheConstants.{POOLED_STATE, RETURNING_STATE, STATES}
-use Rattle.ea_word.specs.Codes.{IsShown, owner_code}
+use Rattle.ea_word.specs.Codes.{IsShown, owner_code, word_by, word_in}
 use Rattle.ea_table.specs.Ending.{AreGiven, HasPlaces, IsClosedIn, place_by, place_if}
-use Rattle.ea_table.specs.Ending.{places_in, word_by, word_in}
+use Rattle.ea_table.specs.Ending.{places_in}
 use Rattle.ea_table.specs.Slots.{Slot, slot_at}
 use Rattle.ea_table.specs.Words.{owner_at, place_code}
 
@@ -118,13 +118,10 @@ told-by (word.Busy i) slot e = refl
 told-by (word.Returning i) None e = absurd (omega (arith, e))
 told-by (word.Returning i) (Some x) e = refl
 
-pub word-told : (w : OwnerWord) (found : ℕ) (slot : Slot) (p : CarrierAt) → IsShown w
-    → found ≡ owner_code w → p ≡ place_by (word_in found) slot → found ≡ place_code p
-    → w ≡ word_of p
-word-told w found slot p shown is at coded =
-    let here : p ≡ place_by w slot =
-    at ∙ ap (λ v. place_by v slot) (ap word_in is ∙ word-back w shown) in
-    told-by w slot (sym is ∙ coded ∙ ap place_code here) ∙ ap word_of (sym here)
+pub word-told : (w : OwnerWord) (found : ℕ) (slot : Slot) (p : CarrierAt) → found ≡ owner_code w
+    → p ≡ place_by w slot → found ≡ place_code p → w ≡ word_of p
+word-told w found slot p is at coded =
+    told-by w slot (sym is ∙ coded ∙ ap place_code at) ∙ ap word_of (sym at)
 
 -- the schedulers stand as after the turns after which the table was closed
 pub stand-in : (c : Config) (t : Trace) (ss : List Scheduler) (ws : List ℕ) (xs : List Slot)

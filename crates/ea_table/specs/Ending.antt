@@ -1,8 +1,8 @@
 -- How a run ends.
-use Rattle.std.specs.Prelude.{◌≡◌, ℕ, ◌+◌, ◌*◌, ◌/◌, ◌%◌, ◌^◌, ◌<◌, ◌≤◌, nat_le, ◌==◌}
+use Rattle.std.specs.Prelude.{◌≡◌, ℕ, ◌+◌, ◌*◌, ◌<◌, ◌≤◌, nat_le}
 use Rattle.std.specs.Prelude.{Option, get_or, length}
 use Rattle.std.specs.List.{range_with_len}
-use Rattle.std.specs.Prelude.{Bool, true, false, ◌&&◌, if◌then◌else◌, List, All, AllPairs, None}
+use Rattle.std.specs.Prelude.{Bool, true, false, ◌&&◌, List, All, AllPairs, None}
 use Rattle.std.specs.Prelude.{Some, map, slice_index, slice_index_or}
 use mathlib.Core.Option.{some}
 use lib.ListN.{get_elem?}
@@ -29,9 +29,6 @@ use Rattle.ea_machine.specs.Stops.{count_of, left_after, stop_of}
 use Rattle.ea_sched.specs.declared.state.Scheduler.{Scheduler}
 use Rattle.ea_sched.specs.Acting.{actor_of, stop_line}
 use Rattle.ea_shared.specs.Carriers.{IsCarrier, home_of}
-use Rattle.ea_word.specs.declared.owners.TheConstants.{BUSY_STATE, EMPLOYED_STATE, INSTANCE_SHIFT}
-use Rattle.ea_word.specs.declared.owners.TheConstants.{LARGEST_SHIFT, MAX_CODED_INSTANCE}
-use Rattle.ea_word.specs.declared.owners.TheConstants.{POOLED_STATE, RETURNING_STATE, STATES}
 use Rattle.ea_word.specs.Codes.{IsCodable, IsShown}
 use Rattle.ea_table.specs.declared.views.View.{View}
 use Rattle.ea_table.specs.declared.worker.Finished.{Finished}
@@ -55,20 +52,6 @@ pub record Gives (n g : ℕ) (ws : List ℕ) (given : List Named) : Type 0 where
 -- these are all names that the words give
 abbrev pub AreGiven : ℕ → ℕ → List ℕ → List Named → Type 0
 AreGiven n g ws names = (given : List Named) → Gives n g ws given → names ≡ given
-
--- the owner word with that number
-
-abbrev pub word_by : (state instance largest : ℕ) → OwnerWord
-word_by state instance largest =
-    if state == EMPLOYED_STATE then word.Employed instance
-    else if state == POOLED_STATE then word.Pooled instance largest
-    else if state == BUSY_STATE then word.Busy instance
-    else if state == RETURNING_STATE then word.Returning instance
-    else word.Absent
-
-abbrev pub word_in : ℕ → OwnerWord
-word_in found = word_by (found % STATES)
-    (found / 2 ^ INSTANCE_SHIFT % MAX_CODED_INSTANCE + 1) (2 * (found / 2 ^ LARGEST_SHIFT))
 
 -- where a carrier is, by its owner word and by what is in its slot
 abbrev pub place_by : OwnerWord → Slot → CarrierAt

@@ -1,5 +1,6 @@
 -- The numbers of nodes and of owner words, and the words of queues and links.
-use Rattle.std.specs.Prelude.{◌≡◌, ℕ, ◌+◌, ◌-◌, ◌*◌, ◌/◌, ◌%◌, ◌^◌, ◌<◌, ◌≤◌, Option, None, Some}
+use Rattle.std.specs.Prelude.{◌≡◌, ◌==◌, ℕ, ◌+◌, ◌-◌, ◌*◌, ◌/◌, ◌%◌, ◌^◌, ◌<◌, ◌≤◌}
+use Rattle.std.specs.Prelude.{Option, None, Some, if◌then◌else◌}
 use Rattle.ea_machine.specs.declared.nodes.Node.{Node}
 use Rattle.ea_machine.specs.declared.nodes.Node.TheVariants.{Block, Carrier}
 use Rattle.ea_machine.specs.declared.owners.OwnerWord.{OwnerWord}
@@ -11,7 +12,7 @@ use Rattle.ea_word.specs.declared.nodes.TheConstants.{MAX_CODED_NAME, NAME_SHIFT
 use Rattle.ea_word.specs.declared.owners.TheConstants.{ABSENT_STATE, BUSY_STATE, CODED_LARGEST}
 use Rattle.ea_word.specs.declared.owners.TheConstants.{EMPLOYED_STATE, INSTANCE_SHIFT}
 use Rattle.ea_word.specs.declared.owners.TheConstants.{LARGEST_SHIFT, MAX_CODED_INSTANCE}
-use Rattle.ea_word.specs.declared.owners.TheConstants.{POOLED_STATE, RETURNING_STATE}
+use Rattle.ea_word.specs.declared.owners.TheConstants.{POOLED_STATE, RETURNING_STATE, STATES}
 use Rattle.ea_word.specs.declared.words.TheConstants.{NO_NODE, OLDEST}
 
 -- the node's fields have room in a number
@@ -56,3 +57,17 @@ owner_code (Pooled instance largest) = POOLED_STATE + 2 ^ INSTANCE_SHIFT * (inst
     + 2 ^ LARGEST_SHIFT * (largest / 2)
 owner_code (Busy instance) = BUSY_STATE + 2 ^ INSTANCE_SHIFT * (instance - 1)
 owner_code (Returning instance) = RETURNING_STATE + 2 ^ INSTANCE_SHIFT * (instance - 1)
+
+-- the owner word that a number would be of, by its parts
+abbrev pub word_by : (state instance largest : ℕ) → OwnerWord
+word_by state instance largest =
+    if state == EMPLOYED_STATE then Employed instance
+    else if state == POOLED_STATE then Pooled instance largest
+    else if state == BUSY_STATE then Busy instance
+    else if state == RETURNING_STATE then Returning instance
+    else Absent
+
+-- the owner word with that number, if one has it
+abbrev pub word_in : ℕ → OwnerWord
+word_in bits = word_by (bits % STATES)
+    (bits / 2 ^ INSTANCE_SHIFT % MAX_CODED_INSTANCE + 1) (2 * (bits / 2 ^ LARGEST_SHIFT))

@@ -1,7 +1,7 @@
 //! The numbers of owner words.
 ghost use Rattle.std.specs.Prelude.{◌≡◌, Some, IfSome};
 ghost use Rattle.ea_machine.specs.declared.owners.OwnerWord as declared;
-ghost use Rattle.ea_word.specs.Codes.{IsShown, owner_code};
+ghost use Rattle.ea_word.specs.Codes.{IsShown, owner_code, word_in};
 
 use ea_machine::OwnerWord;
 
@@ -53,6 +53,7 @@ pub fn decode(bits: u64) -> Option<OwnerWord>
     ensures coded { (word : declared.OwnerWord) → IsShown word → bits ≡ owner_code word
         → result ≡ Some word }
     ensures only { IfSome result (λ word. IsShown word × (bits ≡ owner_code word)) }
+    ensures reads { IfSome result (λ word. word ≡ word_in bits) }
 {
     let state = bits % STATES;
     let instance = ((bits >> INSTANCE_SHIFT) % u64::from(MAX_CODED_INSTANCE)) as u32 + 1;

@@ -35,11 +35,11 @@ returns-in-Some-clause-row g c = on_ok_weaker c.pass.result
     c.pass.ensures.row
 
 pub returns-in-Routed-clause-row : goal.returns-in-Routed-clause-row
-returns-in-Routed-clause-row g c = on_ok_weaker c.turn.result
-    (restaged c.args.self.now _ c.turn.new.self
+returns-in-Routed-clause-row g c = on_ok_weaker c.go_route.result
+    (restaged c.args.self.now _ c.go_route.new.self
     (Routed c.in-Routed.route c.in-Routed.why c.in-Routed.gone) c.args.self.now.stage
     (sym c.in-Routed.is ∙ c.replace.ensures.value) refl refl refl refl)
-    c.turn.ensures.row
+    c.go_route.ensures.row
 
 pub returns-in-Collecting-clause-row : goal.returns-in-Collecting-clause-row
 returns-in-Collecting-clause-row g c = on_ok_weaker c.receive.result
@@ -75,11 +75,11 @@ returns-in-Some-clause-memory g c = on_err_weaker c.pass.result
     c.pass.ensures.memory
 
 pub returns-in-Routed-clause-memory : goal.returns-in-Routed-clause-memory
-returns-in-Routed-clause-memory g c = on_err_weaker c.turn.result
+returns-in-Routed-clause-memory g c = on_err_weaker c.go_route.result
     (restaged-plans c.args.self.now
     (Routed c.in-Routed.route c.in-Routed.why c.in-Routed.gone)
     c.args.self.now.stage (sym c.in-Routed.is ∙ c.replace.ensures.value))
-    c.turn.ensures.memory
+    c.go_route.ensures.memory
 
 pub returns-in-Collecting-clause-memory : goal.returns-in-Collecting-clause-memory
 returns-in-Collecting-clause-memory g c = on_err_weaker c.receive.result

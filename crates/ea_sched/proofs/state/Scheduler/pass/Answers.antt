@@ -1,11 +1,11 @@
-use Rattle.std.proofs.Common.{◌≡◌, [], ◌∷◌, Some, sym, ap, refl, ◌∙◌}
+use Rattle.std.proofs.Common.{Some, ap, refl}
 use Rattle.std.proofs.lemmas.Result.{on_err_weaker, on_ok_weaker}
 use Rattle.ea_machine.specs.declared.stages.Stage.TheVariants.{Begin}
 use Rattle.ea_machine.specs.Machine.{begins}
 use Rattle.ea_machine.specs.Rows.{Rests, TakeLink}
 use Rattle.ea_sched.specs.Acting.{actor_of}
 use Rattle.ea_sched.proofs.Calling.{as-node, ended-plans, pass-few, pass-next, pass-node}
-use Rattle.ea_sched.proofs.Calling.{passed-can, passed-ended, passed-next, passed-suits}
+use Rattle.ea_sched.proofs.Calling.{passed-ended, passed-next, passed-works}
 use Rattle.ea_sched.proofs.Calling.{ready-counts, rests-suits, row-done, row-plans}
 use Rattle.ea_sched.proofs.state.Scheduler.pass.Goals as goal
 
@@ -33,21 +33,11 @@ go_on-requires g c = record {
   counts = ready-counts c.args.self.now c.requires.starts.ready;
 }
 
-pub end_walk-requires-clause-passed : goal.end_walk-requires-clause-passed
-end_walk-requires-clause-passed g c = λ off. passed-can c.args.self.now c.requires.starts.ready
-    c.args.node refl c.requires.next c.add.new.self.nodes
-    c.add.ensures
-    c.in-End.ensures.row (sym c.args.self.now.migrates_so ∙ off)
-
-pub end_walk-requires-clause-next : goal.end_walk-requires-clause-next
-end_walk-requires-clause-next g c = λ off. passed-suits c.args.self.now c.requires.starts.ready
-    c.args.node refl c.requires.next c.add.new.self.nodes
-    c.add.ensures
-    c.in-End.ensures.row (sym c.args.self.now.migrates_so ∙ off)
-
-pub end_walk-requires-clause-next_on : goal.end_walk-requires-clause-next_on
-end_walk-requires-clause-next_on g c = λ on none. absurd
-    (let no : c.args.node ∷ c.args.self.now.passed.nodes ≡ [] = sym c.add.ensures ∙ none in cc)
+pub end_walk-requires-clause-walk : goal.end_walk-requires-clause-walk
+end_walk-requires-clause-walk g c =
+    let works = passed-works c.args.self.now c.requires.starts.ready c.args.node refl
+    c.requires.next c.add.new.self.nodes c.add.ensures c.in-End.ensures.row in
+    record { passed = works.passed; next = works.next; next_on = works.next_on }
 
 pub end_walk-requires-clause-counts : goal.end_walk-requires-clause-counts
 end_walk-requires-clause-counts g c = ready-counts c.args.self.now c.requires.starts.ready

@@ -1,21 +1,22 @@
-use Rattle.std.proofs.Common.{◌≡◌, true, refl, sym, ap, ◌∙◌, subst}
-use Rattle.std.specs.Prelude.{None, Some, IfSome}
+use Rattle.std.proofs.Common.{◌≡◌, true, sym, ap, ◌∙◌, subst}
+use Rattle.std.specs.Prelude.{IfSome}
 use Rattle.ea_model.specs.declared.settings.Settings.{Settings}
 use Rattle.ea_model.specs.Abandonment.{is_due}
 use Rattle.ea_model.specs.Instance.{Instance, content_of, employed, has_content}
 use Rattle.ea_sched.specs.Acting.{setup_for, standing_at}
-use Rattle.ea_sched.proofs.Routing.{due-turned, has-after, stays-turned, there-is}
-use Rattle.ea_sched.proofs.Routing.{vacant-turned}
+use Rattle.ea_sched.proofs.Routing.{due-released, has-after, stays-released, there-is}
+use Rattle.ea_sched.proofs.Routing.{vacant-released}
 use Rattle.ea_sched.proofs.state.Scheduler.release_here.Goals as goal
 
 pub returns-then-is_vacant-clause-turned : goal.returns-then-is_vacant-clause-turned
 returns-then-is_vacant-clause-turned c = λ at.
     let s = c.args.self.now in
-    vacant-turned (setup_for s) s.number c.args.why c.args.hand c.args.gone c.first_gone-gone.result
-    (standing_at at s) c.release-is_vacant.new.self None _ c.release-is_vacant.ensures.released
+    c.leave.ensures (record (standing_at at s) { instance = c.hand_out-content.new.self })
+    ∙ vacant-released (setup_for s) s.number c.args.hand c.args.gone c.first_gone-gone.result
+    (standing_at at s) c.release-is_vacant.new.self c.release-is_vacant.ensures.released
     c.first_gone-gone.ensures c.hand_out-content.result c.hand_out-content.new.self
     c.hand_out-content.ensures.content c.hand_out-content.ensures.rest
-    (sym c.release-is_vacant.ensures.vacant ∙ c.if-is_vacant.true) (c.leave.ensures.turned at)
+    (sym c.release-is_vacant.ensures.vacant ∙ c.if-is_vacant.true)
 
 pub due-requires : goal.due-requires
 due-requires c = subst (λ i. has_content c.args.hand.spot.carrier (employed i) ≡ true)
@@ -39,12 +40,11 @@ returns-then-due-clause-turned c = λ at.
     ∙ c.requires.settings in
     let due = subst (λ o. IfSome o (λ z. c.due.result ≡ is_due i.settings i.contents z)) q
     c.due.ensures in
-    due-turned (setup_for s) s.number c.args.why c.args.hand c.args.gone c.first_gone-gone.result
-    (standing_at at s) i None _ c.release-is_vacant.ensures.released
+    due-released (setup_for s) s.number c.args.hand c.args.gone c.first_gone-gone.result
+    (standing_at at s) i c.release-is_vacant.ensures.released
     c.first_gone-gone.ensures y c.hand_out-content-then-due.new.self q
     c.hand_out-content-then-due.ensures.rest
     (ap (λ (x : Settings). is_due x i.contents y) (sym same) ∙ sym due ∙ c.if-due.true)
-    (refl, refl)
 
 pub returns-clause-turned : goal.returns-clause-turned
 returns-clause-turned c = λ at.
@@ -58,9 +58,8 @@ returns-clause-turned c = λ at.
     ∙ c.requires.settings in
     let due = subst (λ o. IfSome o (λ z. c.due.result ≡ is_due i.settings i.contents z)) q
     c.due.ensures in
-    stays-turned (setup_for s) s.number c.args.why c.args.hand c.args.gone c.first_gone-gone.result
-    (standing_at at s) i (Some c.first_gone-gone.result) _ c.release-is_vacant.ensures.released
+    stays-released (setup_for s) s.number c.args.hand c.args.gone c.first_gone-gone.result
+    (standing_at at s) i c.release-is_vacant.ensures.released
     c.first_gone-gone.ensures x q (sym c.release-is_vacant.ensures.vacant ∙ c.if-is_vacant.false)
     c.release-is_vacant.ensures.emptied
     (ap (λ (y : Settings). is_due y i.contents x) (sym same) ∙ sym due ∙ c.if-due.false)
-    (refl, refl)

@@ -18,7 +18,7 @@ go_on-requires c =
     ap (λ (w : Worked). w.hand) (sym is) ∙ c.in-None.is in
     record {
       next = subst (λ j. SuitsNext j s) (ap (λ (w : Worked). w.instance) (sym is))
-          (c.requires.next none);
+          (c.requires.walk.next c.requires.off none);
       counts = subst (λ n. n + 1 < 2 ^ 32) (sym (ap (λ (w : Worked). w.instance.created) is
           ∙ worked-created s.number s.passed.nodes s.instance)) c.requires.counts;
     }
@@ -31,7 +31,7 @@ returns-in-None-clause-actor c =
     on_ok_weaker c.go_on.result (λ is at. is
     ∙ ap (onward (setup_for s) s.number)
     (walked-none (setup_for s) s.number (sym s.migrates_so ∙ c.requires.off) (standing_at at s)
-    s.passed.nodes c.requires.passed i left
+    s.passed.nodes (c.requires.walk.passed c.requires.off) i left
     (ap (λ hand. record { instance = i; left = left; hand = hand }) (sym c.in-None.is)
     ∙ c.work_off.ensures)))
     c.go_on.ensures.actor
@@ -44,7 +44,7 @@ returns-in-Some-clause-actor c =
     λ at. c.send.ensures.actor
     ∙ ap (onward (setup_for s) s.number)
     (walked-some (setup_for s) s.number (sym s.migrates_so ∙ c.requires.off) (standing_at at s)
-    s.passed.nodes c.requires.passed i left c.in-Some.hand
+    s.passed.nodes (c.requires.walk.passed c.requires.off) i left c.in-Some.hand
     (ap (λ hand. record { instance = i; left = left; hand = hand }) (sym c.in-Some.is)
     ∙ c.work_off.ensures))
 
@@ -58,7 +58,7 @@ returns-in-None-clause-memory c =
     on_err_weaker c.go_on.result (λ is at. subst (PlansFrom s)
     (ap (onward (setup_for s) s.number)
     (walked-none (setup_for s) s.number (sym s.migrates_so ∙ c.requires.off) (standing_at at s)
-    s.passed.nodes c.requires.passed i left
+    s.passed.nodes (c.requires.walk.passed c.requires.off) i left
     (ap (λ hand. record { instance = i; left = left; hand = hand }) (sym c.in-None.is)
     ∙ c.work_off.ensures)))
     (planned-from i s.instance _ same is))

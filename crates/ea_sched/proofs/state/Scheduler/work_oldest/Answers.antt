@@ -9,7 +9,7 @@ use Rattle.ea_sched.proofs.state.Scheduler.work_oldest.Goals as goal
 
 pub go_on-requires : goal.go_on-requires
 go_on-requires c = record {
-  next = c.requires.next c.in-None.ensures.0;
+  next = c.requires.walk.next_on c.requires.on c.in-None.ensures.0;
   counts = c.requires.counts;
 }
 

@@ -1,7 +1,8 @@
 use Rattle.std.proofs.Common.{◌≡◌, None, slice_index, slice_index_or, sym, ap, ◌∙◌}
 use Rattle.std.proofs.lemmas.Grind.{not_there}
 use Rattle.std.specs.Mem.Slots.{slots_items}
-use Rattle.ea_table.specs.Ending.{place_by, places_in, word_in}
+use Rattle.ea_table.specs.Ending.{place_by, places_in}
+use Rattle.ea_word.specs.Codes.{word_in}
 use Rattle.ea_table.specs.Slots.{slot_at}
 use Rattle.ea_table.specs.Words.{owner_at}
 use Rattle.ea_table.proofs.Closing.{in-range, word-told}
@@ -31,7 +32,8 @@ returns c =
     ∙ element-index ws c.owner_place-place.result c.word.result c.word.ensures in
     let slot = slice_index_or xs (slot_at n) None in
     word-told c.in-Some.word c.word.result slot (places_in s.schedulers s.greatest ws xs n)
-    c.in-Some.ensures.only.0 c.in-Some.ensures.only.1
+    c.in-Some.ensures.only.1
     (in-range s.schedulers s.greatest ws xs n c.requires.carrier
-    ∙ ap (λ f. place_by (word_in f) slot) found)
+    ∙ ap (λ f. place_by (word_in f) slot) found
+    ∙ ap (λ w. place_by w slot) (sym c.in-Some.ensures.reads))
     (sym found ∙ s.owners n c.requires.carrier)
