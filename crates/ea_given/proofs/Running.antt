@@ -30,7 +30,7 @@ use Rattle.ea_sound.proofs.Completing.{rule-less}
 use Rattle.ea_sound.proofs.Stopping.{less-more, less-none, less-over, up_to-all, up_to-more}
 use Rattle.ea_sound.proofs.Stopping.{up_to-nothing, up_to-one, up_to-over, up_to-some, up_to-step}
 use Rattle.ea_sound.proofs.TurnLists.{ended-or, run-append, step-ended, step-mine, step-shared}
-use Rattle.ea_mem_shared.specs.Memory.{Sharing, shared_of}
+use Rattle.ea_mem_shared.specs.Memory.{Sharing, shared_of, told_of}
 use Rattle.ea_sched.specs.declared.state.Scheduler.{Scheduler}
 use Rattle.ea_sched.specs.Acting.{actor_of, is_ended, is_over, rests, setup_for}
 use Rattle.ea_sched.specs.Looks.{AreLeft}
@@ -205,18 +205,16 @@ module _ (c : Config) (t : Trace) (me : ℕ) (steps : Option ℕ) (s : Scheduler
 
   module _ (m : Sharing) (shares : SharesAt c t m w) where
     -- it is ready for its step
-    pub stands-ready : taking.Ready s.config s.trace.now s.number (actor_of s)
-        (Some (shared_of m)) None
-    stands-ready = as-run (λ d u k. taking.Ready d u k (actor_of s) (Some (shared_of m)) None)
-        (record {
-          config = shares.config;
-          trace = shares.trace;
-          turns = shares.reached.0;
-          actor = ap (λ (v : State). v.actors me) (sym shares.reached.1) ∙ at.actor;
-          shares = shares.shares ∙ ap (λ (v : State). v.shared) shares.reached.1;
-          calls = tt;
-          told = inl refl;
-        })
+    pub stands-ready : taking.IsReady s (told_of m)
+    stands-ready = as-run (λ d u k. taking.Ready d u k (actor_of s) (told_of m)) (record {
+      config = shares.config;
+      trace = shares.trace;
+      turns = shares.reached.0;
+      actor = ap (λ (v : State). v.actors me) (sym shares.reached.1) ∙ at.actor;
+      shares = shares.shares ∙ ap (λ (v : State). v.shared) shares.reached.1;
+      calls = tt;
+      some = inl refl;
+    })
 
     -- carriers migrate in the memory exactly if they do in its run
     pub stands-moves : m.migrates ≡ migration (setup_for s)
@@ -231,14 +229,14 @@ module _ (c : Config) (t : Trace) (me : ℕ) (steps : Option ℕ) (s : Scheduler
         → u.trace ≡ s.trace → u.number ≡ s.number
         → n.schedulers ≡ m.schedulers → n.greatest ≡ m.greatest → n.migrates ≡ m.migrates
         → u.failed ≡ false → is_ended s.stage ≡ false → AreLeft k s.left → u.left ≡ less s.left k
-        → Stepped s.config s.trace.now s.number k (actor_of s) (actor_of u) (Some (shared_of m))
-        (Some (shared_of n)) None None → After k u n
+        → Stepped s.config s.trace.now s.number k (actor_of s) (actor_of u) (told_of m) (told_of n)
+        → After k u n
     stepped-stands k u n config trace number made names moves going goes within left stepped =
         let e = setup_of c t in
         let own = replicate k me in
         let v = run_on e w own in
-        let took = of-run (λ d x i. Stepped d x i k (actor_of s) (actor_of u) (Some (shared_of m))
-        (Some (shared_of n)) None None) stepped in
+        let took = of-run (λ d x i. Stepped d x i k (actor_of s) (actor_of u) (told_of m)
+        (told_of n)) stepped in
         let before = run e took.turns in
         let alike = steps-alike e me k before w (took.actor ∙ sym at.actor)
         (sym took.shares.0 ∙ shares.shares) in
@@ -275,8 +273,8 @@ module _ (c : Config) (t : Trace) (me : ℕ) (steps : Option ℕ) (s : Scheduler
         → n.schedulers ≡ m.schedulers → n.greatest ≡ m.greatest → n.migrates ≡ m.migrates
         → u.failed ≡ false → (1 ≤ k → rests s ≡ false)
         → (1 ≤ k → AreLeft k s.left × (u.left ≡ less s.left k))
-        → (1 ≤ k → Stepped s.config s.trace.now s.number k (actor_of s) (actor_of u)
-        (Some (shared_of m)) (Some (shared_of n)) None None)
+        → (1 ≤ k → Stepped s.config s.trace.now s.number k (actor_of s) (actor_of u) (told_of m)
+        (told_of n))
         → (k ≡ 0 → (rests s ≡ true) × (u ≡ s) × (n ≡ m))
         → (j : ℕ) → j ≡ max k 1 → After j u n
     turns-taken zero u n config trace number made names moves going goes left took rest j is =

@@ -1,6 +1,6 @@
 -- What is shared after rows that were done in plain memory, one after another.
 use Rattle.std.proofs.Common.{◌≡◌, ◌≢◌, ℕ, Bool, true, false, ◌&&◌, List, [], ◌∷◌, Some}
-use Rattle.std.proofs.Common.{None, refl, ap, ◌∙◌, arith}
+use Rattle.std.proofs.Common.{refl, ap, ◌∙◌, arith}
 use Rattle.std.specs.Prelude.{All}
 use Rattle.std.proofs.lemmas.List.Elements.{All-nil, All-cons}
 use Rattle.ea_model.specs.declared.carriers.Kind.TheVariants.{Multi}
@@ -19,7 +19,7 @@ use Rattle.ea_machine.specs.Setup.{migration, setup_of}
 use Rattle.ea_machine.specs.Shared.{Shared, put}
 use Rattle.ea_machine.specs.Table.{effect, moved_if}
 use Rattle.ea_machine.specs.Sums.{one_if}
-use Rattle.ea_shared.specs.Calls.{Did}
+use Rattle.ea_shared.specs.Calls.{HasEffect}
 use Rattle.ea_mem_shared.proofs.PlaceLists.{tried-lost, tried-won}
 
 told-is : (s t : Shared) → Some s ≡ Some t → s ≡ t
@@ -27,9 +27,8 @@ told-is s t e = cc
 
 -- a row was done on what is shared
 pub after-row : {me : ℕ} {row : Row} {got : Answer} {s t w : Shared} → s ≡ w
-    → Did me row got (Some s) (Some t) None None → t ≡ effect me row w
-after-row {me} {row} {got} {s} {t} e d = told-is t (effect me row s) d.shared.1
-    ∙ ap (effect me row) e
+    → HasEffect me row got (Some t) s → t ≡ effect me row w
+after-row {me} {row} {got} {s} {t} e d = told-is t (effect me row s) d.made ∙ ap (effect me row) e
 
 one-none : (b : Bool) → one_if b ≡ 0 → b ≡ false
 one-none true z = absurd (omega (arith, z))
@@ -84,7 +83,7 @@ full = record {
 
 -- the row was done on what is shared
 abbrev Done : ℕ → Answer → Shared → Shared → Row → Type 0
-Done me got s t row = Did me row got (Some s) (Some t) None None
+Done me got s t row = HasEffect me row got (Some t) s
 
 -- where the carrier is after a row
 module _ {me : ℕ} {got : Answer} {s t : Shared} where

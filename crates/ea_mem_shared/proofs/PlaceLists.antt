@@ -1,10 +1,9 @@
 -- Lists of places, and the places that they are.
-use Rattle.std.proofs.Common.{◌≡◌, ◌≢◌, ℕ, zero, suc, ◌+◌, ◌<◌, ◌≤◌, Bool, true, false, List, []}
-use Rattle.std.proofs.Common.{◌∷◌, ◌++◌, get_or, length, map, refl, sym, ap, ◌∙◌, inl, inr, arith}
+use Rattle.std.proofs.Common.{◌≡◌, ◌≢◌, ℕ, zero, suc, ◌≤◌, Bool, true, false, List, []}
+use Rattle.std.proofs.Common.{◌∷◌, get_or, length, map, refl, sym, ap, ◌∙◌, inl, inr, arith}
 use Rattle.std.specs.Prelude.{replicate, set}
 use Rattle.std.proofs.lemmas.Bool.{cases_lt}
-use Rattle.std.proofs.lemmas.List.{get_or-replicate, length-replicate, map-append, map-set}
-use Rattle.std.proofs.lemmas.List.{replicate-append-replicate}
+use Rattle.std.proofs.lemmas.List.{get_or-replicate, length-replicate, map-set}
 use Rattle.std.proofs.Math.ListN.{get_or-map as get_or-map_default}
 use Rattle.ea_model.specs.Content.{Content}
 use Rattle.ea_machine.specs.declared.owners.OwnerWord.{OwnerWord}
@@ -13,7 +12,6 @@ use Rattle.ea_machine.specs.Owners.{CarrierAt, Absent, Pooled, same_word, word_o
 use Rattle.ea_machine.specs.Rows.{Lost, Won}
 use Rattle.ea_machine.specs.Table.{tried_at, won_if}
 use Rattle.ea_mem_shared.specs.declared.carriers.Place.{Place}
-use Rattle.ea_mem_shared.specs.declared.carriers.Place.TheVariants as code
 use Rattle.ea_mem_shared.specs.Counted.{is_counted}
 use Rattle.ea_mem_shared.specs.Places.{counts_at, is_in_search, place_at, placed}
 

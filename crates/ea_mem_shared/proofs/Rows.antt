@@ -28,7 +28,7 @@ use Rattle.ea_machine.specs.Table.{settled_at, tried_at}
 use Rattle.ea_queues.specs.Chains.{HasNone, Queueing, marks_of}
 use Rattle.ea_shared.specs.Calls.{Did}
 use Rattle.ea_shared.specs.Carriers.{HasReturned, IsCarrier, home_of}
-use Rattle.ea_mem_shared.specs.Memory.{Sharing, shared_of}
+use Rattle.ea_mem_shared.specs.Memory.{Sharing, shared_of, told_of}
 use Rattle.ea_mem_shared.specs.Places.{after_try, place_at}
 
 put-here : {A : Type 0} (f : ℕ → A) (k : ℕ) (v : A) (n : ℕ) → n ≡ k → put f k v n ≡ v
@@ -70,12 +70,12 @@ sharing q given places migrates = record {
 module _ (me : ℕ) (row : Row) (got : Answer) where
   -- the row made t of s in plain memory, with this answer
   abbrev Does : Sharing → Sharing → Type 0
-  Does s t = Did me row got (Some (shared_of s)) (Some (shared_of t)) None None
+  Does s t = Did me row got (told_of s) (told_of t)
 
   does : (s t : Sharing) → got ≡ answer me row (shared_of s)
       → shared_of t ≡ effect me row (shared_of s) → Does s t
   does s t answered made = record {
-    shared = (answered, ap Some made);
+    shared = record { answered = answered; made = ap Some made };
     shared_untold = λ e. absurd cc;
     caller = tt;
     caller_untold = λ e. refl;
@@ -184,7 +184,7 @@ start-shared e q given places migrates queues rests none are =
 -- an owner word is read, and nothing changes
 pub did-look : (me : ℕ) (s : Sharing) (number : ℕ) (got : OwnerWord)
     → got ≡ word_of (place_at s.places number)
-    → Did me (Look number) (Saw got) (Some (shared_of s)) (Some (shared_of s)) None None
+    → Does me (Look number) (Saw got) s s
 unfolding answer effect
 did-look me s number got e = does me (Look number) (Saw got) s s (ap Saw e) refl
 

@@ -1,9 +1,10 @@
 -- What plain memory tells of what schedulers share.
-use Rattle.std.specs.Prelude.{ℕ, Bool, List}
+use Rattle.std.specs.Prelude.{ℕ, Bool, List, None, Some}
 use Rattle.ea_machine.specs.declared.nodes.Named.{Named}
 use Rattle.ea_machine.specs.Nodes.{Mark}
 use Rattle.ea_machine.specs.Owners.{CarrierAt}
 use Rattle.ea_machine.specs.Shared.{Shared}
+use Rattle.ea_shared.specs.Calls.{Told}
 use Rattle.ea_queues.specs.Chains.{marks_of}
 use Rattle.ea_mem_shared.specs.Places.{place_at}
 
@@ -26,4 +27,14 @@ shared_of m = record {
   queues = marks_of m.queues;
   rests = marks_of m.rests;
   given = m.given;
+}
+
+-- what it tells: what is shared, and no caller
+abbrev pub told_of : Sharing → Told
+told_of m = record {
+  schedulers = m.schedulers;
+  greatest = m.greatest;
+  migrates = m.migrates;
+  shared = Some (shared_of m);
+  caller = None;
 }

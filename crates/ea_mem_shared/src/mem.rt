@@ -122,32 +122,24 @@ impl<C: Carried + Drop> MemShared<C> {
 }
 
 impl<C: Carried + Drop> Shared for MemShared<C> {
-    ghost use Rattle.std.specs.Prelude.{◌≡◌, Some, None};
+    ghost use Rattle.std.specs.Prelude.{◌≡◌};
     ghost use Rattle.std.proofs.Common.{refl};
-    ghost use Rattle.ea_mem_shared.specs.Memory.{shared_of};
+    ghost use Rattle.ea_mem_shared.specs.Memory.{told_of};
 
     type Content = C;
 
-    ghost schedulers = { λ m. m.schedulers };
-
-    ghost greatest = { λ m. m.greatest };
-
-    ghost migrates = { λ m. m.migrates };
-
-    ghost shared = { λ m. Some (shared_of m) };
-
-    ghost caller = { λ _. None };
+    ghost told = { λ m. told_of m };
 
     ghost stays = { λ x y. (y.schedulers ≡ x.schedulers) × (y.greatest ≡ x.greatest)
         × (y.migrates ≡ x.migrates) };
 
     ghost stays_so = { λ _. (refl, refl, refl) };
 
-    ghost stays_shared = { λ x y h. h.0 };
-
-    ghost stays_greatest = { λ x y h. h.1 };
-
-    ghost stays_migrates = { λ x y h. h.2 };
+    ghost stays_told = { λ x y h. record {
+      schedulers = h.0;
+      greatest = h.1;
+      migrates = h.2;
+    } };
 
     fn take_all(&mut self, me: u32) -> Option<Node> {
         self.queues.take_all(me)

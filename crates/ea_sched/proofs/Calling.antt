@@ -29,7 +29,7 @@ use Rattle.ea_machine.specs.Shared.{Shared}
 use Rattle.ea_machine.specs.State.{State}
 use Rattle.ea_machine.specs.Table.{answer}
 use Rattle.ea_machine.specs.Walks.{ready, with_passed, worked_off}
-use Rattle.ea_shared.specs.Calls.{Caller, Did}
+use Rattle.ea_shared.specs.Calls.{Did, Told}
 use Rattle.ea_names.specs.Holding.{has_place}
 use Rattle.ea_sound.proofs.Calls as calls
 use Rattle.ea_sound.proofs.FewCreated.{created-counts}
@@ -78,8 +78,7 @@ module _ (e : Setup) (me : ℕ) where
   onward-took name tries (suc (suc left)) a None = refl
 
 -- a scheduler that is ready for its row, at a stage
-module _ {stage : Stage Content} (s : Scheduler) {shared : Option Shared} {caller : Option Caller}
-    (h : IsReadyAt stage s shared caller) where
+module _ {stage : Stage Content} (s : Scheduler) {told : Told} (h : IsReadyAt stage s told) where
   abbrev me : ℕ
   me = s.number
 
@@ -103,8 +102,8 @@ module _ {stage : Stage Content} (s : Scheduler) {shared : Option Shared} {calle
   in_state at now = ap (λ (x : Actor). x.stage) h.actor ∙ now
 
   -- what holds of what is shared in that state holds of it as it is told
-  pub told-so : (P : Shared → Type 0) → P w.shared → IfSome shared P
-  told-so P holds = if_some shared (λ x. x ≡ w.shared) P (λ x same. subst P (sym same) holds)
+  pub told-so : (P : Shared → Type 0) → P w.shared → IfSome told.shared P
+  told-so P holds = if_some told.shared (λ x. x ≡ w.shared) P (λ x same. subst P (sym same) holds)
       h.shares
 
   -- one carrier more can be counted
@@ -118,7 +117,7 @@ module _ {stage : Stage Content} (s : Scheduler) {shared : Option Shared} {calle
       (sym (ap (λ (x : Actor). x.todo) h.actor) ∙ first)
 
   -- the queue is to be taken: nothing is left of the walk before
-  pub take-walked : a.next ≡ None → IfSome shared (λ x. x.rests me ≡ [])
+  pub take-walked : a.next ≡ None → IfSome told.shared (λ x. x.rests me ≡ [])
   take-walked none = told-so (λ x. x.rests me ≡ [])
       (calls.rest-none s.config s.trace.now h.config h.trace w reached me
       (ap (λ (x : Actor). x.next) h.actor ∙ none))
@@ -138,7 +137,7 @@ module _ {stage : Stage Content} (s : Scheduler) {shared : Option Shared} {calle
     pub pass-node : IsNode s.config.schedulers s.trace.now.greatest node
     pass-node = next-node.1
 
-    pub pass-next : IfSome shared (λ x. first_node (x.rests me) ≡ Some node)
+    pub pass-next : IfSome told.shared (λ x. first_node (x.rests me) ≡ Some node)
     pass-next = told-so (λ x. first_node (x.rests me) ≡ Some node) next-node.0
 
     -- there is room for it among those that were passed
@@ -153,7 +152,7 @@ module _ {stage : Stage Content} (s : Scheduler) {shared : Option Shared} {calle
         )
 
   -- a node is to be pushed
-  module _ (node : Node) (to : ℕ) (why : Why) (gone : Gone)
+  module _ {node : Node} {to : ℕ} {why : Why} {gone : Gone}
       (now : stage ≡ Routed (Pushing node to) why gone) where
     pub push-target : IsScheduler s.config.schedulers to
     push-target = (calls.push-target s.config s.trace.now h.config h.trace w reached me
@@ -163,13 +162,13 @@ module _ {stage : Stage Content} (s : Scheduler) {shared : Option Shared} {calle
     push-node = calls.push-node s.config s.trace.now h.config h.trace w reached me number
         node to why gone (in_state (Routed (Pushing node to) why gone) now)
 
-    pub push-nowhere : IfSome shared (HasNoAlike node)
+    pub push-nowhere : IfSome told.shared (HasNoAlike node)
     push-nowhere = told-so (HasNoAlike node)
         (calls.push-no_alike s.config s.trace.now h.config h.trace w reached me number node
         to why gone (in_state (Routed (Pushing node to) why gone) now))
 
   -- a node is to be linked
-  module _ (node : Node) (to : ℕ) (why : Why) (gone : Gone)
+  module _ {node : Node} {to : ℕ} {why : Why} {gone : Gone}
       (now : stage ≡ Routed (Linking node to) why gone) where
     pub link-target : IsScheduler s.config.schedulers to
     link-target = calls.link-target s.config s.trace.now h.config h.trace w reached me
@@ -179,7 +178,7 @@ module _ {stage : Stage Content} (s : Scheduler) {shared : Option Shared} {calle
     link-node = calls.link-node s.config s.trace.now h.config h.trace w reached me number
         node to why gone (in_state (Routed (Linking node to) why gone) now)
 
-    pub link-unlinked : IfSome shared (IsUnlinkedAt node to)
+    pub link-unlinked : IfSome told.shared (IsUnlinkedAt node to)
     link-unlinked = told-so (IsUnlinkedAt node to)
         (calls.link-unlinked s.config s.trace.now h.config h.trace w reached me number node
         to why gone (in_state (Routed (Linking node to) why gone) now))
@@ -194,7 +193,7 @@ module _ {stage : Stage Content} (s : Scheduler) {shared : Option Shared} {calle
     give-spot = calls.give-spot s.config s.trace.now h.config h.trace w reached me number
         given to (in_state (Giving given to) now)
 
-    pub give-fresh : IfSome shared (λ x. spot_named given.name x.given ≡ None)
+    pub give-fresh : IfSome told.shared (λ x. spot_named given.name x.given ≡ None)
     give-fresh = told-so (λ x. spot_named given.name x.given ≡ None)
         (calls.give-free s.config s.trace.now h.config h.trace w reached me number given to
         (in_state (Giving given to) now))
@@ -225,17 +224,16 @@ module _ {stage : Stage Content} (s : Scheduler) {shared : Option Shared} {calle
         (sym (ap (λ (x : Actor). x.todo) h.actor) ∙ first.1)
 
   -- a row was answered
-  module _ {new : Option Shared} {now : Option Caller} where
-    pub in-answered : (row : Row) (got : Answer) → Did me row got shared new caller now
-        → Answered e me a row got shared caller now
-    in-answered row got did = answered-so s.config s.trace.now me a row got shared new caller now h
+  module _ {new : Told} where
+    pub in-answered : (row : Row) (got : Answer) → Did me row got told new
+        → Answered e me a row got told new
+    in-answered row got did = answered-so s.config s.trace.now me a row got told new h
         did
 
     -- the scheduler has gone on by the answer
     pub row-done : {t : Scheduler} (row : Row) (got : Answer) (at : Stage Content) → stage ≡ at
-        → wants_at a.next at ≡ row → Did me row got shared new caller now
-        → actor_of t ≡ onward e me (after_row e me a got at)
-        → DidRow stage s t shared new caller now
+        → wants_at a.next at ≡ row → Did me row got told new
+        → actor_of t ≡ onward e me (after_row e me a got at) → DidRow stage s t told new
     row-done row got at same want did is = record {
       row = row;
       got = got;
@@ -247,19 +245,18 @@ module _ {stage : Stage Content} (s : Scheduler) {shared : Option Shared} {calle
     -- what goes on from it plans a carrier
     pub row-plans : (row : Row) (got : Answer) (at : Stage Content) → stage ≡ at
         → is_ended at ≡ false → is_creating at ≡ false → wants_at a.next at ≡ row
-        → Did me row got shared new caller now
-        → PlansFrom s (onward e me (after_row e me a got at))
-        → PlansAt stage s shared caller
+        → Did me row got told new → PlansFrom s (onward e me (after_row e me a got at))
+        → PlansAt stage s told
     row-plans row got at same goes other want did plans =
         plans-so s.config s.trace.now me a row got (ap (wants_at a.next) same ∙ want)
         (stage-goes stage (ap is_ended same ∙ goes))
         (none-creating stage (ap is_creating same ∙ other))
         (subst (λ x. PlansFrom s (onward e me (after_row e me a got x))) (sym same) plans)
-        shared new caller now h did
+        told new h did
 
     -- the walk's next node isn't linked
     pub rests-suits : (node : Node) → stage ≡ Begin → s.next ≡ Some node
-        → Did me TakeLink Rests shared new caller now → SuitsNext s.instance s
+        → Did me TakeLink Rests told new → SuitsNext s.instance s
     rests-suits node begin next did =
         let u = in-answered TakeLink Rests did in
         suits-rests stage s h.config h.trace (run e u.turns) (u.turns, refl) u.actor node begin next
@@ -269,8 +266,8 @@ module _ {stage : Stage Content} (s : Scheduler) {shared : Option Shared} {calle
     module _ (node : Node) (begin : stage ≡ Begin) (next : s.next ≡ Some node)
         (nodes : List Node) (are : nodes ≡ node ∷ s.passed.nodes) where
       -- and is the oldest one
-      module _ (did : Did me TakeLink (Passes None) shared new caller now) where
-        u : Answered e me a TakeLink (Passes None) shared caller now
+      module _ (did : Did me TakeLink (Passes None) told new) where
+        u : Answered e me a TakeLink (Passes None) told new
         u = in-answered TakeLink (Passes None) did
 
         pub passed-works : CanWorkOff s nodes
@@ -286,22 +283,22 @@ module _ {stage : Stage Content} (s : Scheduler) {shared : Option Shared} {calle
 
         pub passed-ended : {t : Scheduler} → actor_of t ≡ onward e me
             (worked_off e me nodes (record a { passed = nodes; next = None }))
-            → DidRow stage s t shared new caller now
+            → DidRow stage s t told new
         passed-ended is = row-done TakeLink (Passes None) Begin begin
             (ap begins next) did (is ∙ ap (onward e me) ended-is)
 
         pub ended-plans : PlansFrom s (onward e me
             (worked_off e me nodes (record a { passed = nodes; next = None })))
-            → PlansAt stage s shared caller
+            → PlansAt stage s told
         ended-plans plans = row-plans TakeLink (Passes None) Begin begin refl refl
             (ap begins next) did
             (subst (PlansFrom s) (ap (onward e me) ended-is) plans)
 
       -- an older one is next
       pub passed-next : {t : Scheduler} (older : Node)
-          → Did me TakeLink (Passes (Some older)) shared new caller now
+          → Did me TakeLink (Passes (Some older)) told new
           → actor_of t ≡ record a { stage = Begin; passed = nodes; next = Some older }
-          → DidRow stage s t shared new caller now
+          → DidRow stage s t told new
       passed-next older did is = row-done TakeLink (Passes (Some older)) Begin
           begin (ap begins next) did
           (is
@@ -311,7 +308,7 @@ module _ {stage : Stage Content} (s : Scheduler) {shared : Option Shared} {calle
     -- a name was taken
     pub take-fresh : (name tries left : ℕ) (found : Option Spot)
         → stage ≡ Taking name tries left
-        → Did me (TakeTry name) (Got found) shared new caller now → IsSome found → IsFresh s name
+        → Did me (TakeTry name) (Got found) told new → IsSome found → IsFresh s name
     unfolding answer
     take-fresh name tries left found at did is =
         let u = in-answered (TakeTry name) (Got found) did in

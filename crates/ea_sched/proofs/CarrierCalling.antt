@@ -1,14 +1,15 @@
 -- What the calls of a scheduler on carriers ask for, as what is shared is told, and what it has of
 -- a carrier by their answers.
-use Rattle.std.proofs.Common.{◌≤◌, ◌≡◌, ◌≢◌, ℕ, ◌%◌, ◌<◌, true, [], refl, sym, ap, ◌∙◌}
+use Rattle.std.proofs.Common.{◌≤◌, ◌≡◌, ◌≢◌, ℕ, ◌*◌, ◌<◌, [], refl, sym, ap, ◌∙◌}
 use Rattle.std.proofs.Common.{subst, arith}
-use Rattle.std.specs.Prelude.{IfSome, IsSome, None, Option, ◌+◌, length}
+use Rattle.std.specs.Prelude.{Bool, IfSome, IsSome, None, Option, ◌+◌, length}
 use Rattle.ea_model.specs.declared.units.TheConstants.{NUMBERS}
 use Rattle.ea_model.specs.declared.carriers.Kind.TheVariants.{Multi}
 use Rattle.ea_model.specs.Content.{Content, block_at, gaps_of, largest}
 use Rattle.ea_model.specs.Instance.{Instance, block_in, content_of, employed, own_at}
 use Rattle.ea_model.specs.Instance.{owner_of}
 use Rattle.ea_model.specs.Trace.{IsScheduler}
+use Rattle.ea_model.proofs.Options.{if_some}
 use Rattle.ea_machine.specs.declared.nodes.Named.{Named}
 use Rattle.ea_machine.specs.declared.owners.OwnerWord.{OwnerWord}
 use Rattle.ea_machine.specs.declared.owners.OwnerWord.TheVariants as word
@@ -20,30 +21,31 @@ use Rattle.ea_machine.specs.declared.stages.Route.TheVariants.{Abandoning, Clear
 use Rattle.ea_machine.specs.declared.stages.Route.TheVariants.{Sending, Settling, Trying}
 use Rattle.ea_machine.specs.Actor.{Actor}
 use Rattle.ea_machine.specs.Lists.{times_listed}
-use Rattle.ea_machine.specs.Machine.{IsReached, run}
+use Rattle.ea_machine.specs.Machine.{IsReached, run, wants_at}
 use Rattle.ea_machine.specs.Owners.{Busy, Employed}
-use Rattle.ea_machine.specs.Rows.{Answer, BusyTry, Look, Lost, Row, Saw, Won}
-use Rattle.ea_machine.specs.Setup.{Setup, migration}
+use Rattle.ea_machine.specs.Rows.{Answer, BusyTry, Look, Row, Saw, Settle, Won}
+use Rattle.ea_machine.specs.Setup.{Setup}
 use Rattle.ea_machine.specs.Shared.{Shared}
 use Rattle.ea_machine.specs.State.{State}
+use Rattle.ea_machine.specs.Statistics.{leaving_at}
+use Rattle.ea_machine.specs.Words.{IsLargest}
 use Rattle.ea_sound.proofs.ListedCalls as listed
 use Rattle.ea_sound.specs.Places.{IsNumber}
 use Rattle.ea_sound.proofs.CarrierCalls as carriers
 use Rattle.ea_sound.proofs.LeavingCalls as leaving
 use Rattle.ea_sound.proofs.ReleasingCalls as releasing
 use Rattle.ea_sound.proofs.WordCalls as words
-use Rattle.ea_sound.proofs.WordCalls.{NamesEmployer}
-use Rattle.ea_shared.specs.Calls.{Caller, Did}
-use Rattle.ea_shared.specs.Carriers.{HasReturned, IsCarrier, IsFor, IsPooledBy}
+use Rattle.ea_shared.specs.Calls.{Caller, Did, IsWanted, Told, WantsRow, caller_of}
+use Rattle.ea_shared.specs.Carriers.{HasReturned, IsCarrier, IsCollecting, IsFor, IsLeaving}
+use Rattle.ea_shared.specs.Carriers.{IsPooledBy}
 use Rattle.ea_sched.specs.declared.state.Scheduler.{Scheduler}
 use Rattle.ea_sched.specs.Acting.{setup_for, standing_at}
-use Rattle.ea_sched.specs.Steps.{IsReadyAt}
-use Rattle.ea_sched.proofs.Calling.{in-answered, in_state, told-so}
+use Rattle.ea_sched.specs.Steps.{IsReadyAt, StartsRow}
+use Rattle.ea_sched.proofs.Calling.{in-answered, told-so}
 use Rattle.ea_sched.proofs.Doing.{Answered}
 
 -- a scheduler that is ready for its row, at a stage
-module _ {stage : Stage Content} (s : Scheduler) {shared : Option Shared} {caller : Option Caller}
-    (h : IsReadyAt stage s shared caller) where
+module _ {stage : Stage Content} (s : Scheduler) {told : Told} (h : IsReadyAt stage s told) where
   abbrev me : ℕ
   me = s.number
 
@@ -60,256 +62,309 @@ module _ {stage : Stage Content} (s : Scheduler) {shared : Option Shared} {calle
   number : IsScheduler s.config.schedulers me
   number = (s.number_from, s.number_to)
 
-  -- a number of the run is one of its schedulers'
-  of-run : (n : ℕ) → IsNumber e n → IsCarrier s.config.schedulers n
-  of-run n is = (is.0, omega (arith, is.1))
+  stands : (w.actors me).stage ≡ stage
+  stands = ap (λ (a : Actor). a.stage) h.actor
 
   -- the instance in that state is the scheduler's
   its : (P : Instance → Type 0) → P (w.actors me).instance → P s.instance
   its P holds = subst (λ (a : Actor). P a.instance) h.actor holds
+
+  -- the caller that is told is the scheduler
+  abbrev mine : Caller
+  mine = caller_of e me h.turns
+
+  told-caller : (P : Caller → Type 0) → P mine → IfSome told.caller P
+  told-caller P holds = if_some told.caller (λ x. x ≡ mine) P (λ x same. subst P (sym same) holds)
+      h.calls
 
   -- a number stands in the lists once at most
   pub listed-once : (n : ℕ) → times_listed n s.lists.lists ≤ 1
   listed-once n = subst (λ (a : Actor). times_listed n a.lists ≤ 1) h.actor
       (listed.listed-once s.config s.trace.now h.config h.trace w reached me number n)
 
-  module _ (why : Why) (gone : Gone) where
-    -- the owner word of the carrier of the block in the hand is to be read
-    module _ (hand : Named) (now : stage ≡ Routed (Looking hand) why gone) where
-      pub look-carrier : IsCarrier s.config.schedulers hand.spot.carrier
-      look-carrier = of-run hand.spot.carrier
-          (carriers.look-number s.config s.trace.now h.config h.trace w reached me number
-          why gone hand (in_state s h (Routed (Looking hand) why gone) now))
-
-    -- the carrier is to be made busy
-    module _ (hand : Named) (seen : OwnerWord) (now : stage ≡ Routed (Trying hand seen) why gone)
-      where
-        pub try-carrier : IsCarrier s.config.schedulers hand.spot.carrier
-        try-carrier = of-run hand.spot.carrier
-            (carriers.try-number s.config s.trace.now h.config h.trace w reached me number
-            why gone hand seen (in_state s h (Routed (Trying hand seen) why gone) now))
-
-        pub try-pooled : IsPooledBy me seen
-        try-pooled =
-            let (g, is, units) = carriers.try-seen s.config s.trace.now h.config h.trace w
-            reached me number why gone hand seen
-            (in_state s h (Routed (Trying hand seen) why gone) now) in
-            record { largest = g; is = is; units = units }
-
-    module _ (x : Content) where
-      -- a busy carrier is to be settled
-      module _ (now : stage ≡ Routed (Settling x) why gone) where
-        pub settle-many : x.kind ≡ Multi
-        settle-many = carriers.settle-many s.config s.trace.now h.config h.trace w reached
-            me number why gone x (in_state s h (Routed (Settling x) why gone) now)
-
-        pub settle-carrier : IsCarrier s.config.schedulers x.number
-        settle-carrier = of-run x.number
-            (carriers.settle-number s.config s.trace.now h.config h.trace w reached me
-            number why gone x (in_state s h (Routed (Settling x) why gone) now))
-
-        pub settle-busy : IfSome shared (λ y. y.places x.number ≡ Busy me)
-        settle-busy = told-so s h (λ y. y.places x.number ≡ Busy me)
-            (carriers.settle-place s.config s.trace.now h.config h.trace w reached me
-            number why gone x (in_state s h (Routed (Settling x) why gone) now))
-
-        pub settle-for : (gap : ℕ) → x.blocks ≢ [] → gap ≡ largest (gaps_of x)
-            → IsFor x.number gap x
-        settle-for gap some is =
-            let units = carriers.settle-largest s.config s.trace.now h.config h.trace w
-            reached me number why gone x (in_state s h (Routed (Settling x) why gone) now) in
-            record {
-              number = refl;
-              blocks = some;
-              is = is;
-              units = (ap (λ n. n % 2) is ∙ units.0, omega (arith, is, units.1));
-            }
-
-      -- one is to be abandoned
-      module _ (now : stage ≡ Routed (Abandoning x) why gone) where
-        pub abandon-many : x.kind ≡ Multi
-        abandon-many = leaving.abandon-many s.config s.trace.now h.config h.trace w reached
-            me number why gone x (in_state s h (Routed (Abandoning x) why gone) now)
-
-        pub abandon-carrier : IsCarrier s.config.schedulers x.number
-        abandon-carrier = of-run x.number
-            (leaving.abandon-number s.config s.trace.now h.config h.trace w reached me
-            number why gone x (in_state s h (Routed (Abandoning x) why gone) now))
-
-        -- there is room for its number, where it is an own one
-        pub abandon-room : owner_of x.number ≡ me
-            → length s.lists.lists.pooled + length s.lists.lists.traitors < NUMBERS
-        abandon-room own = subst (λ (a : Actor). length a.lists.pooled + length a.lists.traitors
-            < NUMBERS) h.actor
-            (listed.abandon-room s.config s.trace.now h.config h.trace w reached me number
-            why gone x (in_state s h (Routed (Abandoning x) why gone) now) own)
-
-        pub abandon-employed : IfSome shared (λ y. y.places x.number ≡ Employed me)
-        abandon-employed = told-so s h (λ y. y.places x.number ≡ Employed me)
-            (leaving.abandon-place s.config s.trace.now h.config h.trace w reached me
-            number why gone x (in_state s h (Routed (Abandoning x) why gone) now))
-
-        pub abandon-for : (gap : ℕ) → gap ≡ largest (gaps_of x) → IsFor x.number gap x
-        abandon-for gap is =
-            let at = in_state s h (Routed (Abandoning x) why gone) now in
-            let units = leaving.abandon-largest s.config s.trace.now h.config h.trace w
-            reached me number why gone x at in
-            record {
-              number = refl;
-              blocks = leaving.abandon-some s.config s.trace.now h.config h.trace w reached
-                  me number why gone x at;
-              is = is;
-              units = (ap (λ n. n % 2) is ∙ units.0, omega (arith, is, units.1));
-            }
-
-      -- one is to be sent home
-      module _ (now : stage ≡ Routed (Sending x) why gone) where
-        pub send-many : x.kind ≡ Multi
-        send-many = leaving.send-many s.config s.trace.now h.config h.trace w reached
-            me number why gone x (in_state s h (Routed (Sending x) why gone) now)
-
-        pub send-empty : x.blocks ≡ []
-        send-empty = leaving.send-empty s.config s.trace.now h.config h.trace w reached
-            me number why gone x (in_state s h (Routed (Sending x) why gone) now)
-
-        pub send-other : owner_of x.number ≢ me
-        send-other = leaving.send-other s.config s.trace.now h.config h.trace w reached
-            me number why gone x (in_state s h (Routed (Sending x) why gone) now)
-
-        pub send-carrier : IsCarrier s.config.schedulers x.number
-        send-carrier = of-run x.number
-            (leaving.send-number s.config s.trace.now h.config h.trace w reached me
-            number why gone x (in_state s h (Routed (Sending x) why gone) now))
-
-        pub send-employed : IfSome shared (λ y. y.places x.number ≡ Employed me)
-        send-employed = told-so s h (λ y. y.places x.number ≡ Employed me)
-            (leaving.send-place s.config s.trace.now h.config h.trace w reached me
-            number why gone x (in_state s h (Routed (Sending x) why gone) now))
-
-      -- one is to be cleared
-      module _ (now : stage ≡ Routed (Clearing x) why gone) where
-        pub clear-mine : owner_of x.number ≡ me
-        clear-mine = leaving.clear-mine s.config s.trace.now h.config h.trace w reached
-            me number why gone x (in_state s h (Routed (Clearing x) why gone) now)
-
-        pub clear-carrier : IsCarrier s.config.schedulers x.number
-        clear-carrier = of-run x.number
-            (leaving.clear-number s.config s.trace.now h.config h.trace w reached me
-            number why gone x (in_state s h (Routed (Clearing x) why gone) now))
-
-        pub clear-employed : IfSome shared (λ y. y.places x.number ≡ Employed me)
-        clear-employed = told-so s h (λ y. y.places x.number ≡ Employed me)
-            (leaving.clear-place s.config s.trace.now h.config h.trace w reached me
-            number why gone x (in_state s h (Routed (Clearing x) why gone) now))
-
-        -- the instance has it no longer, and owns it
-        pub clear-none : content_of (employed s.instance) x.number ≡ None
-        clear-none = its (λ i. content_of (employed i) x.number ≡ None)
-            (leaving.clear-none s.config s.trace.now h.config h.trace w reached me
-            number why gone x (in_state s h (Routed (Clearing x) why gone) now))
-
-        pub clear-own : IsSome (own_at s.instance.own x.number)
-        clear-own = its (λ i. IsSome (own_at i.own x.number))
-            (subst IsSome (sym (carriers.clear-own s.config s.trace.now h.config h.trace w
-            reached me number why gone x
-            (in_state s h (Routed (Clearing x) why gone) now))) refl)
-
   -- the settings of its instance are those of the run
   pub own-settings : s.instance.settings ≡ e.settings
   own-settings = its (λ i. i.settings ≡ e.settings)
       (releasing.own-settings s.config s.trace.now h.config h.trace w reached me number)
 
-  pub own-migrates : migration e ≡ true → 0 < s.instance.settings.acul
-  own-migrates on = its (λ i. 0 < i.settings.acul)
-      (releasing.own-migrates s.config s.trace.now h.config h.trace w reached me number on)
+  -- its row was answered
+  module _ (row : Row) (got : Answer) {new : Told} (did : Did me row got told new) where
+    u : Answered e me (standing_at stage s) row got told new
+    u = in-answered s h row got did
 
-  -- a carrier that has returned is to be cleared
-  module _ (n : ℕ) (now : stage ≡ Collecting n) where
-    pub collect-mine : owner_of n ≡ me
-    collect-mine = carriers.collect-mine s.config s.trace.now h.config h.trace w reached me
-        number n (in_state s h (Collecting n) now)
+    -- it stood so in this state, too
+    abbrev v : State
+    v = run e u.turns
 
-    pub collect-carrier : IsCarrier s.config.schedulers n
-    collect-carrier = of-run n
-        (carriers.collect-number s.config s.trace.now h.config h.trace w reached me
-        number n (in_state s h (Collecting n) now))
+    stood : (v.actors me).stage ≡ stage
+    stood = ap (λ (a : Actor). a.stage) u.actor
 
-    pub collect-returned : IfSome shared (λ y. HasReturned me (y.places n))
-    collect-returned = told-so s h (λ y. HasReturned me (y.places n))
-        (carriers.collect-home s.config s.trace.now h.config h.trace w reached me number n
-        (in_state s h (Collecting n) now))
+-- a scheduler that starts its row
+module _ {stage : Stage Content} {told : Told} (s : Scheduler) (h : StartsRow stage s told)
+    {n k : ℕ} (same : n ≡ k) where
+  -- a number of the run is one of those of what is shared
+  of-shared : IsNumber (setup_for s) k → IsCarrier told.schedulers n
+  of-shared is = (
+    omega (arith, same, is.0),
+    omega (arith, same, is.1, ap (λ m. NUMBERS * m) h.schedulers),
+  )
 
-    pub collect-none : content_of (employed s.instance) n ≡ None
-    collect-none = its (λ i. content_of (employed i) n ≡ None)
-        (carriers.collect-none s.config s.trace.now h.config h.trace w reached me
-        number n (in_state s h (Collecting n) now))
+  told-at : (P : ℕ → Shared → Type 0) → P k (w s h.ready).shared → IfSome told.shared (P n)
+  told-at P holds = subst (λ m. IfSome told.shared (P m)) (sym same) (told-so s h.ready (P k) holds)
 
-    pub collect-own : IsSome (own_at s.instance.own n)
-    collect-own = its (λ i. IsSome (own_at i.own n))
-        (subst IsSome (sym (carriers.collect-own s.config s.trace.now h.config h.trace w
-        reached me number n (in_state s h (Collecting n) now))) refl)
+-- the content that is handed on is the one that was in the hand
+as-for : {n gap : ℕ} {x y : Content} → n ≡ x.number → y ≡ x → x.blocks ≢ []
+    → gap ≡ largest (gaps_of y) → IsLargest (largest (gaps_of x)) → IsFor n gap y
+as-for same taken some is units = record {
+  number = ap (λ (z : Content). z.number) taken ∙ sym same;
+  blocks = λ none. some (ap (λ (z : Content). z.blocks) (sym taken) ∙ none);
+  is = is;
+  units = subst IsLargest (sym (is ∙ ap (λ (z : Content). largest (gaps_of z)) taken)) units;
+}
 
-  -- a row was answered
-  module _ {new : Option Shared} {then : Option Caller} where
-    -- in that state the scheduler stood at the stage, too, with its instance
-    module _ (row : Row) (got : Answer) (did : Did me row got shared new caller then) where
-      abbrev u : Answered e me (standing_at stage s) row got shared caller then
-      u = in-answered s h row got did
+module _ {why : Why} {gone : Gone} {told : Told} (s : Scheduler) where
+  -- the owner word of the carrier of the block in the hand is to be read
+  module _ {hand : Named} (h : StartsRow (Routed (Looking hand) why gone) s told) where
+    pub look-carrier : IsCarrier told.schedulers hand.spot.carrier
+    look-carrier =
+        let r = h.ready in
+        of-shared s h refl (carriers.look-number s.config s.trace.now r.config r.trace (w s r)
+        (reached s r) (me s r) (number s r) why gone hand (stands s r))
 
-      there : (at : Stage Content) → stage ≡ at → ((run e u.turns).actors me).stage ≡ at
-      there at now = ap (λ (a : Actor). a.stage) u.actor ∙ now
+    -- it names the scheduler: the block is here
+    pub saw-block : {new : Told} (seen : OwnerWord)
+        → Did s.number (Look hand.spot.carrier) (Saw seen) told new
+        → seen ≡ word.Employed s.number → IsSome (block_in (employed s.instance) hand.spot)
+    saw-block seen did is =
+        let r = h.ready in
+        let row = Look hand.spot.carrier in
+        let x = u s r row (Saw seen) did in
+        subst (λ (a : Actor). IsSome (block_in (employed a.instance) hand.spot)) x.actor
+        (releasing.release-block s.config s.trace.now r.config r.trace (v s r row (Saw seen) did)
+        (x.turns, refl) (me s r) (number s r) why gone hand (stood s r row (Saw seen) did)
+        (words.saw-employed s.number hand.spot.carrier (v s r row (Saw seen) did).shared s.number
+        (sym x.answered ∙ ap Saw is)))
 
-      own : (P : Instance → Type 0) → P ((run e u.turns).actors me).instance → P s.instance
-      own P holds = subst (λ (a : Actor). P a.instance) u.actor holds
+  -- the carrier is to be made busy
+  module _ {hand : Named} {seen : OwnerWord}
+      (h : StartsRow (Routed (Trying hand seen) why gone) s told) where
+    pub try-carrier : IsCarrier told.schedulers hand.spot.carrier
+    try-carrier =
+        let r = h.ready in
+        of-shared s h refl (carriers.try-number s.config s.trace.now r.config r.trace (w s r)
+        (reached s r) (me s r) (number s r) why gone hand seen (stands s r))
 
-    module _ (why : Why) (gone : Gone) (hand : Named) where
-      -- the word that a look showed
-      module _ (now : stage ≡ Routed (Looking hand) why gone) where
-        pub saw-named : (v : OwnerWord)
-            → Did me (Look hand.spot.carrier) (Saw v) shared new caller then
-            → NamesEmployer v
-        saw-named v did =
-            let u = in-answered s h (Look hand.spot.carrier) (Saw v) did in
-            words.saw-named s.config s.trace.now h.config h.trace (run e u.turns)
-            (u.turns, refl) me number why gone hand (there (Look hand.spot.carrier) (Saw v) did
-            (Routed (Looking hand) why gone) now) v (sym u.answered)
+    pub try-pooled : IsPooledBy s.number seen
+    try-pooled =
+        let r = h.ready in
+        let (g, is, units) = carriers.try-seen s.config s.trace.now r.config r.trace (w s r)
+        (reached s r) (me s r) (number s r) why gone hand seen (stands s r) in
+        record { largest = g; is = is; units = units }
 
-        -- the block is here
-        pub saw-block : Did me (Look hand.spot.carrier) (Saw (word.Employed me)) shared new caller
-            then
-            → IsSome (block_in (employed s.instance) hand.spot)
-        saw-block did =
-            let row = Look hand.spot.carrier in
-            let got = Saw (word.Employed me) in
-            let u = in-answered s h row got did in
-            own row got did (λ i. IsSome (block_in (employed i) hand.spot))
-            (releasing.release-block s.config s.trace.now h.config h.trace (run e u.turns)
-            (u.turns, refl) me number why gone hand
-            (there row got did (Routed (Looking hand) why gone) now)
-            (words.saw-employed me hand.spot.carrier (run e u.turns).shared me (sym u.answered)))
+    -- it has the block
+    pub won-block : {new : Told} (x : Content)
+        → Did s.number (BusyTry hand.spot.carrier seen) (Won x) told new
+        → IsSome (block_at x.blocks hand.spot.offset)
+    won-block x did =
+        let r = h.ready in
+        let row = BusyTry hand.spot.carrier seen in
+        let y = u s r row (Won x) did in
+        let (same, many, (b, at, named)) = carriers.won-block s.config s.trace.now r.config r.trace
+        (v s r row (Won x) did) (y.turns, refl) (me s r) (number s r) why gone hand seen
+        (stood s r row (Won x) did) x
+        (words.busy-won s.number hand.spot.carrier (v s r row (Won x) did).shared seen x
+        (sym y.answered)) in
+        subst IsSome (sym at) refl
 
-      -- a try to make the carrier busy
-      module _ (seen : OwnerWord) (now : stage ≡ Routed (Trying hand seen) why gone) where
-        pub won-block : (x : Content)
-            → Did me (BusyTry hand.spot.carrier seen) (Won x) shared new caller then
-            → (x.number ≡ hand.spot.carrier) × (x.kind ≡ Multi)
-            × IsSome (block_at x.blocks hand.spot.offset)
-        won-block x did =
-            let row = BusyTry hand.spot.carrier seen in
-            let u = in-answered s h row (Won x) did in
-            let (same, many, (b, at, named)) = carriers.won-block s.config s.trace.now h.config
-            h.trace (run e u.turns) (u.turns, refl) me number why gone hand seen
-            (there row (Won x) did (Routed (Trying hand seen) why gone) now) x
-            (words.busy-won me hand.spot.carrier (run e u.turns).shared seen x (sym u.answered)) in
-            (same, many, subst IsSome (sym at) refl)
+  -- a carrier is in the hand
+  module _ {x : Content} where
+    -- a busy one is to be settled
+    module _ (h : StartsRow (Routed (Settling x) why gone) s told) where
+      pub settle-many : x.kind ≡ Multi
+      settle-many =
+          let r = h.ready in
+          carriers.settle-many s.config s.trace.now r.config r.trace (w s r) (reached s r)
+          (me s r) (number s r) why gone x (stands s r)
 
-        pub lost-named : (v : OwnerWord)
-            → Did me (BusyTry hand.spot.carrier seen) (Lost v) shared new caller then
-            → NamesEmployer v
-        lost-named v did =
-            let row = BusyTry hand.spot.carrier seen in
-            let u = in-answered s h row (Lost v) did in
-            words.lost-named s.config s.trace.now h.config h.trace (run e u.turns)
-            (u.turns, refl) me number why gone hand seen
-            (there row (Lost v) did (Routed (Trying hand seen) why gone) now) v
-            (sym u.answered)
+      pub settle-wanted : IsWanted s.number (Settle x) told
+      settle-wanted = told-caller s h.ready (WantsRow s.number (Settle x))
+          (refl, ap (wants_at (mine s h.ready).actor.next) (stands s h.ready))
+
+      module _ {n : ℕ} (same : n ≡ x.number) where
+        pub settle-carrier : IsCarrier told.schedulers n
+        settle-carrier =
+            let r = h.ready in
+            of-shared s h same (carriers.settle-number s.config s.trace.now r.config r.trace
+            (w s r) (reached s r) (me s r) (number s r) why gone x (stands s r))
+
+        pub settle-busy : IfSome told.shared (λ y. y.places n ≡ Busy s.number)
+        settle-busy =
+            let r = h.ready in
+            told-at s h same (λ k y. y.places k ≡ Busy s.number)
+            (carriers.settle-place s.config s.trace.now r.config r.trace (w s r) (reached s r)
+            (me s r) (number s r) why gone x (stands s r))
+
+        pub settle-for : {y : Content} {gap : ℕ} → y ≡ x → x.blocks ≢ []
+            → gap ≡ largest (gaps_of y) → IsFor n gap y
+        settle-for taken some is =
+            let r = h.ready in
+            as-for same taken some is (carriers.settle-largest s.config s.trace.now r.config r.trace
+            (w s r) (reached s r) (me s r) (number s r) why gone x (stands s r))
+
+    -- one is to be abandoned
+    module _ (h : StartsRow (Routed (Abandoning x) why gone) s told)
+      where
+        pub abandon-many : x.kind ≡ Multi
+        abandon-many =
+            let r = h.ready in
+            leaving.abandon-many s.config s.trace.now r.config r.trace (w s r) (reached s r)
+            (me s r) (number s r) why gone x (stands s r)
+
+        module _ {n : ℕ} (same : n ≡ x.number) where
+          pub abandon-carrier : IsCarrier told.schedulers n
+          abandon-carrier =
+              let r = h.ready in
+              of-shared s h same (leaving.abandon-number s.config s.trace.now r.config r.trace
+              (w s r) (reached s r) (me s r) (number s r) why gone x (stands s r))
+
+          -- there is room for its number, where it is an own one
+          pub abandon-room : owner_of n ≡ s.number
+              → length s.lists.lists.pooled + length s.lists.lists.traitors < NUMBERS
+          abandon-room own =
+              let r = h.ready in
+              subst (λ (a : Actor). length a.lists.pooled + length a.lists.traitors < NUMBERS)
+              r.actor
+              (listed.abandon-room s.config s.trace.now r.config r.trace (w s r) (reached s r)
+              (me s r) (number s r) why gone x (stands s r) (ap owner_of (sym same) ∙ own))
+
+          pub abandon-employed : IfSome told.shared (λ y. y.places n ≡ Employed s.number)
+          abandon-employed =
+              let r = h.ready in
+              told-at s h same (λ k y. y.places k ≡ Employed s.number)
+              (leaving.abandon-place s.config s.trace.now r.config r.trace (w s r)
+              (reached s r) (me s r) (number s r) why gone x (stands s r))
+
+          pub abandon-for : {y : Content} {gap : ℕ} → y ≡ x → gap ≡ largest (gaps_of y)
+              → IsFor n gap y
+          abandon-for taken is =
+              let r = h.ready in
+              as-for same taken
+              (leaving.abandon-some s.config s.trace.now r.config r.trace (w s r)
+              (reached s r) (me s r) (number s r) why gone x (stands s r)) is
+              (leaving.abandon-largest s.config s.trace.now r.config r.trace (w s r)
+              (reached s r) (me s r) (number s r) why gone x (stands s r))
+
+    -- one is to be sent home
+    module _ (h : StartsRow (Routed (Sending x) why gone) s told) where
+      pub send-many : x.kind ≡ Multi
+      send-many =
+          let r = h.ready in
+          leaving.send-many s.config s.trace.now r.config r.trace (w s r) (reached s r)
+          (me s r) (number s r) why gone x (stands s r)
+
+      pub send-empty : x.blocks ≡ []
+      send-empty =
+          let r = h.ready in
+          leaving.send-empty s.config s.trace.now r.config r.trace (w s r) (reached s r)
+          (me s r) (number s r) why gone x (stands s r)
+
+      module _ {n : ℕ} (same : n ≡ x.number) where
+        pub send-other : owner_of n ≢ s.number
+        send-other own =
+            let r = h.ready in
+            leaving.send-other s.config s.trace.now r.config r.trace (w s r) (reached s r)
+            (me s r) (number s r) why gone x (stands s r) (ap owner_of (sym same) ∙ own)
+
+        pub send-carrier : IsCarrier told.schedulers n
+        send-carrier =
+            let r = h.ready in
+            of-shared s h same (leaving.send-number s.config s.trace.now r.config r.trace
+            (w s r) (reached s r) (me s r) (number s r) why gone x (stands s r))
+
+        pub send-employed : IfSome told.shared (λ y. y.places n ≡ Employed s.number)
+        send-employed =
+            let r = h.ready in
+            told-at s h same (λ k y. y.places k ≡ Employed s.number)
+            (leaving.send-place s.config s.trace.now r.config r.trace (w s r) (reached s r)
+            (me s r) (number s r) why gone x (stands s r))
+
+    -- one is to be cleared
+    module _ (h : StartsRow (Routed (Clearing x) why gone) s told) where
+      pub clear-leaving : IfSome told.caller IsLeaving
+      clear-leaving = told-caller s h.ready IsLeaving (x, ap leaving_at (stands s h.ready))
+
+      module _ {n : ℕ} (same : n ≡ x.number) where
+        pub clear-mine : owner_of n ≡ s.number
+        clear-mine =
+            let r = h.ready in
+            ap owner_of same
+            ∙ leaving.clear-mine s.config s.trace.now r.config r.trace (w s r) (reached s r)
+            (me s r) (number s r) why gone x (stands s r)
+
+        pub clear-carrier : IsCarrier told.schedulers n
+        clear-carrier =
+            let r = h.ready in
+            of-shared s h same (leaving.clear-number s.config s.trace.now r.config r.trace
+            (w s r) (reached s r) (me s r) (number s r) why gone x (stands s r))
+
+        pub clear-employed : IfSome told.shared (λ y. y.places n ≡ Employed s.number)
+        clear-employed =
+            let r = h.ready in
+            told-at s h same (λ k y. y.places k ≡ Employed s.number)
+            (leaving.clear-place s.config s.trace.now r.config r.trace (w s r) (reached s r)
+            (me s r) (number s r) why gone x (stands s r))
+
+        -- the instance has it no longer, and owns it
+        pub clear-none : content_of (employed s.instance) n ≡ None
+        clear-none =
+            let r = h.ready in
+            ap (content_of (employed s.instance)) same
+            ∙ its s r (λ i. content_of (employed i) x.number ≡ None)
+            (leaving.clear-none s.config s.trace.now r.config r.trace (w s r) (reached s r)
+            (me s r) (number s r) why gone x (stands s r))
+
+        pub clear-own : IsSome (own_at s.instance.own n)
+        clear-own =
+            let r = h.ready in
+            subst (λ k. IsSome (own_at s.instance.own k)) (sym same)
+            (its s r (λ i. IsSome (own_at i.own x.number))
+            (subst IsSome (sym (carriers.clear-own s.config s.trace.now r.config r.trace (w s r)
+            (reached s r) (me s r) (number s r) why gone x (stands s r))) refl))
+
+-- a carrier that has returned is to be cleared
+module _ {n : ℕ} {told : Told} (s : Scheduler) (h : StartsRow (Collecting n) s told) where
+  pub collects : IfSome told.caller (IsCollecting n)
+  collects = told-caller s h.ready (IsCollecting n) (stands s h.ready)
+
+  pub collect-mine : owner_of n ≡ s.number
+  collect-mine =
+      let r = h.ready in
+      carriers.collect-mine s.config s.trace.now r.config r.trace (w s r) (reached s r)
+      (me s r) (number s r) n (stands s r)
+
+  pub collect-carrier : IsCarrier told.schedulers n
+  collect-carrier =
+      let r = h.ready in
+      of-shared s h refl (carriers.collect-number s.config s.trace.now r.config r.trace (w s r)
+      (reached s r) (me s r) (number s r) n (stands s r))
+
+  pub collect-returned : IfSome told.shared (λ y. HasReturned s.number (y.places n))
+  collect-returned =
+      let r = h.ready in
+      told-so s r (λ y. HasReturned s.number (y.places n))
+      (carriers.collect-home s.config s.trace.now r.config r.trace (w s r) (reached s r)
+      (me s r) (number s r) n (stands s r))
+
+  pub collect-none : content_of (employed s.instance) n ≡ None
+  collect-none =
+      let r = h.ready in
+      its s r (λ i. content_of (employed i) n ≡ None)
+      (carriers.collect-none s.config s.trace.now r.config r.trace (w s r) (reached s r)
+      (me s r) (number s r) n (stands s r))
+
+  pub collect-own : IsSome (own_at s.instance.own n)
+  collect-own =
+      let r = h.ready in
+      its s r (λ i. IsSome (own_at i.own n))
+      (subst IsSome (sym (carriers.collect-own s.config s.trace.now r.config r.trace (w s r)
+      (reached s r) (me s r) (number s r) n (stands s r))) refl)

@@ -16,10 +16,9 @@ use Rattle.ea_machine.specs.Releases.{turned}
 use Rattle.ea_machine.specs.Releases as releases
 use Rattle.ea_machine.specs.Rows.{Clear}
 use Rattle.ea_machine.specs.Setup.{Setup}
-use Rattle.ea_machine.specs.Shared.{Shared}
 use Rattle.ea_machine.specs.Tasks.{carried_by}
 use Rattle.ea_machine.specs.Walks.{after_route, collected, worked_off}
-use Rattle.ea_shared.specs.Calls.{Caller}
+use Rattle.ea_shared.specs.Calls.{Told}
 use Rattle.ea_sound.proofs.Calls as calls
 use Rattle.ea_sound.proofs.ShortRoutes.{turned-created, turned-keeps}
 use Rattle.ea_sched.specs.declared.routes.Turned.{Turned}
@@ -52,9 +51,8 @@ same-plans s t same created a b is plans =
 
 -- the row of a route was done
 module _ (s t : Scheduler) (same : IsSame s t) (route : Route Content) (why : Why) (gone : Gone)
-    {shared new : Option Shared} {caller then : Option Caller}
-    (h : IsReadyAt (Routed route why gone) s shared caller) (left : Turned)
-    (row : TurnedRow route gone s t left shared new caller then) where
+    {told new : Told} (h : IsReadyAt (Routed route why gone) s told) (left : Turned)
+    (row : TurnedRow route gone s t left told new) where
   abbrev e : Setup
   e = setup_for s
 
@@ -68,7 +66,7 @@ module _ (s t : Scheduler) (same : IsSame s t) (route : Route Content) (why : Wh
   -- a walk whose route is over may go on
   pub works-over : left.route ≡ None → why ≡ Walk → CanWorkOff t t.passed.nodes
   works-over over walk = works-turned s t same route gone
-      (subst (λ y. IsReadyAt (Routed route y gone) s shared caller) walk h) left row over
+      (subst (λ y. IsReadyAt (Routed route y gone) s told) walk h) left row over
 
   -- the operation whose block is on the route is left
   pub task-more : (task : Task) → why ≡ For task → HasMore t
@@ -103,7 +101,7 @@ module _ (s t : Scheduler) (same : IsSame s t) (route : Route Content) (why : Wh
       ∙ ap (carried_on e s.number why) is
 
   pub turned-done : (v : Scheduler) → Goes (λ b. actor_of v ≡ b)
-      → DidRow (Routed route why gone) s v shared new caller then
+      → DidRow (Routed route why gone) s v told new
   turned-done v goes = record {
     row = wants_on route;
     got = row.got;
@@ -112,13 +110,13 @@ module _ (s t : Scheduler) (same : IsSame s t) (route : Route Content) (why : Wh
     is = goes (Routed route why gone) ∙ goes-on;
   }
 
-  pub turned-plans : Goes (PlansFrom t) → PlansAt (Routed route why gone) s shared caller
+  pub turned-plans : Goes (PlansFrom t) → PlansAt (Routed route why gone) s told
   turned-plans plans = row-plans s h (wants_on route) row.got (Routed route why gone) refl refl
       refl refl row.did (same-plans s t same created _ _ goes-on (plans (Routed route why gone)))
 
 -- a carrier was collected
-module _ (n : ℕ) (s t : Scheduler) (same : IsSame s t) {shared new : Option Shared}
-    {caller then : Option Caller} (row : CollectedRow n s t shared new caller then) where
+module _ (n : ℕ) (s t : Scheduler) (same : IsSame s t) {told new : Told}
+    (row : CollectedRow n s t told new) where
   -- its walk goes on
   home-on : onward (setup_for t) t.number
       (worked_off (setup_for t) t.number t.passed.nodes (standing_at (Collecting n) t))
@@ -137,7 +135,7 @@ module _ (n : ℕ) (s t : Scheduler) (same : IsSame s t) {shared new : Option Sh
       (worked_off (setup_for t) t.number t.passed.nodes (standing_at at t)))
 
   pub home-walked : (v : Scheduler) → Walks (λ b. actor_of v ≡ b)
-      → DidRow (Collecting n) s v shared new caller then
+      → DidRow (Collecting n) s v told new
   home-walked v goes = record {
     row = Clear n;
     got = row.got;
@@ -147,8 +145,8 @@ module _ (n : ℕ) (s t : Scheduler) (same : IsSame s t) {shared new : Option Sh
   }
 
   -- what goes on from it plans a carrier
-  pub home-plans : IsReadyAt (Collecting n) s shared caller → Walks (PlansFrom t)
-      → PlansAt (Collecting n) s shared caller
+  pub home-plans : IsReadyAt (Collecting n) s told → Walks (PlansFrom t)
+      → PlansAt (Collecting n) s told
   home-plans h plans = row-plans s h (Clear n) row.got (Collecting n) refl refl refl refl row.did
       (same-plans s t same (ap (λ (a : Actor). a.instance.created) (row.is (Collecting n))) _ _
       home-on (plans (Collecting n)))

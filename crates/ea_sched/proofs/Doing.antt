@@ -16,7 +16,7 @@ use Rattle.ea_machine.specs.Shared.{Shared}
 use Rattle.ea_machine.specs.State.{State}
 use Rattle.ea_machine.specs.Statistics.{observed}
 use Rattle.ea_machine.specs.Table.{answer, effect}
-use Rattle.ea_shared.specs.Calls.{Caller, Did, HasEffect, KnowsFront, TookStep, caller_of}
+use Rattle.ea_shared.specs.Calls.{Caller, Did, HasEffect, KnowsFront, Told, TookStep, caller_of}
 use Rattle.ea_sound.proofs.OtherTurns.{actor-since, rest-since}
 use Rattle.ea_sound.proofs.TurnLists.{run-append, step-mine, step-shared}
 use Rattle.ea_machine.specs.declared.stages.Stage.{Stage}
@@ -30,10 +30,14 @@ use Rattle.ea_sched.specs.Creations.{HasPlanned, Plans, PlansAt}
 use Rattle.ea_sched.specs.Steps.{DidRow, IsReady, ObservedRow, Ready, Stepped}
 
 -- something is told
-pub none-told : (shared : Option Shared) (caller : Option Caller) → shared ≡ None → caller ≡ None
-    → IsSome shared ⊎ IsSome caller → ⊥
-none-told shared caller unshared uncalled (inl is) = let some = (some_value shared is).1 in cc
-none-told shared caller unshared uncalled (inr is) = let some = (some_value caller is).1 in cc
+pub none-told : (told : Told) → told.shared ≡ None → told.caller ≡ None
+    → IsSome told.shared ⊎ IsSome told.caller → ⊥
+none-told told unshared uncalled (inl is) = let some = (some_value told.shared is).1 in cc
+none-told told unshared uncalled (inr is) = let some = (some_value told.caller is).1 in cc
+
+-- the same is told, but for what is shared, and the caller
+abbrev pub telling : Told → Option Shared → Option Caller → Told
+telling told shared caller = record told { shared = shared; caller = caller }
 
 module _ {A B : Type 0} where
   -- what is told after a step, by whether anything was told before
@@ -80,14 +84,14 @@ front-stands e me turns x knew = (
 
 -- turns after which the scheduler stands so, and the row is answered so; what is shared is as it is
 -- told, and the caller that is told knew a front of them and took its step there
-pub record Answered (e : Setup) (me : ℕ) (a : Actor) (row : Row) (got : Answer)
-    (shared : Option Shared) (caller now : Option Caller) : Type 0 where
+pub record Answered (e : Setup) (me : ℕ) (a : Actor) (row : Row) (got : Answer) (told new : Told)
+    : Type 0 where
   pub turns : List ℕ
   pub actor : (run e turns).actors me ≡ a
   pub answered : got ≡ answer me row (run e turns).shared
-  pub shares : IfSome shared (λ s. s ≡ (run e turns).shared)
-  pub calls : IfSome caller (λ x. KnowsFront e me turns x
-      × (now ≡ Some (caller_of e me (turns ++ me ∷ []))))
+  pub shares : IfSome told.shared (λ s. s ≡ (run e turns).shared)
+  pub calls : IfSome told.caller (λ x. KnowsFront e me turns x
+      × (new.caller ≡ Some (caller_of e me (turns ++ me ∷ []))))
 
 module _ (c : Config) (t : Trace) (me : ℕ) (a : Actor) where
   abbrev e : Setup
@@ -96,26 +100,31 @@ module _ (c : Config) (t : Trace) (me : ℕ) (a : Actor) where
   -- a row is done
   module _ (row : Row) (got : Answer) where
     -- after some turns it is answered so
-    pub answered-so : (shared new : Option Shared) (caller now : Option Caller)
-        → Ready c t me a shared caller → Did me row got shared new caller now
-        → Answered e me a row got shared caller now
-    answered-so (Some s) new None now h did = record {
-      turns = h.turns;
-      actor = h.actor;
-      answered = (let effects = did.shared in effects.0) ∙ ap (answer me row) h.shares;
-      shares = h.shares;
-      calls = tt;
-    }
-    answered-so shared new (Some x) now h did =
-        let mine = subst (TookStep me row got shared now) h.calls did.caller in
-        record {
-          turns = mine.turns;
-          actor = sym (front-stands e me mine.turns (caller_of e me h.turns) mine.knew).0 ∙ h.actor;
-          answered = mine.answered;
-          shares = mine.shares;
-          calls = (subst (KnowsFront e me mine.turns) (sym h.calls) mine.knew, mine.is);
-        }
-    answered-so None new None now h did = absurd (none-told None None refl refl h.told)
+    pub answered-so : (told new : Told) → Ready c t me a told → Did me row got told new
+        → Answered e me a row got told new
+    answered-so told new = by told.shared told.caller where
+      by : (shared : Option Shared) (caller : Option Caller)
+          → Ready c t me a (telling told shared caller)
+          → Did me row got (telling told shared caller) new
+          → Answered e me a row got (telling told shared caller) new
+      by (Some s) None h did = record {
+        turns = h.turns;
+        actor = h.actor;
+        answered = (let effects = did.shared in effects.answered) ∙ ap (answer me row) h.shares;
+        shares = h.shares;
+        calls = tt;
+      }
+      by shared (Some x) h did =
+          let mine = subst (TookStep me row got shared new.caller) h.calls did.caller in
+          record {
+            turns = mine.turns;
+            actor = sym (front-stands e me mine.turns (caller_of e me h.turns) mine.knew).0
+                ∙ h.actor;
+            answered = mine.answered;
+            shares = mine.shares;
+            calls = (subst (KnowsFront e me mine.turns) (sym h.calls) mine.knew, mine.is);
+          }
+      by None None h did = absurd (none-told (telling told None None) refl refl h.some)
 
     -- it is the one that the scheduler wants
     module _ (b : Actor) (want : wants a ≡ row) (goes : a.stage ≢ Ended)
@@ -130,19 +139,18 @@ module _ (c : Config) (t : Trace) (me : ℕ) (a : Actor) where
       part w at s new same became = became
           ∙ ap Some (ap (effect me row) same ∙ sym (step-part e w me a at row want goes))
 
-      pub stepped : (shared new : Option Shared) (caller now : Option Caller)
-          → Ready c t me a shared caller → Did me row got shared new caller now
-          → Stepped c t me 1 a b shared new caller now
-      stepped shared new caller now h did =
-          let u = answered-so shared new caller now h did in
+      pub stepped : (told new : Told) → Ready c t me a told → Did me row got told new
+          → Stepped c t me 1 a b told new
+      stepped told new h did =
+          let u = answered-so told new h did in
           let w = run e u.turns in
           record {
             turns = u.turns;
             actor = u.actor;
             is = own w u.actor u.answered;
-            shares = both_some shared (λ s. s ≡ w.shared) (HasEffect me row got new)
-                (λ s. (s ≡ w.shared) × (new ≡ Some (step e w me).shared))
-                (λ s same effects. (same, part w u.actor s new same effects.1))
+            shares = both_some told.shared (λ s. s ≡ w.shared) (HasEffect me row got new.shared)
+                (λ s. (s ≡ w.shared) × (new.shared ≡ Some (step e w me).shared))
+                (λ s same effects. (same, part w u.actor s new.shared same effects.made))
                 u.shares did.shared;
             shares_untold = did.shared_untold;
             calls = u.calls;
@@ -153,18 +161,17 @@ module _ (c : Config) (t : Trace) (me : ℕ) (a : Actor) where
     module _ (want : wants a ≡ row) (goes : a.stage ≢ Ended)
         (unplanned : (ask : Ask) (p : CarrierPlan) → a.stage ≢ Creating ask p)
         (plans : HasPlanned e me a.instance (onward e me (after_row e me a got a.stage))) where
-      pub plans-so : (shared new : Option Shared) (caller now : Option Caller)
-          → Ready c t me a shared caller → Did me row got shared new caller now
-          → Plans c t me a shared caller
+      pub plans-so : (told new : Told) → Ready c t me a told → Did me row got told new
+          → Plans c t me a told
       unfolding after
-      plans-so shared new caller now h did =
-          let u = answered-so shared new caller now h did in
+      plans-so told new h did =
+          let u = answered-so told new h did in
           record {
             turns = u.turns;
             actor = u.actor;
             shares = u.shares;
-            calls = if_some caller (λ x. KnowsFront e me u.turns x
-                × (now ≡ Some (caller_of e me (u.turns ++ me ∷ []))))
+            calls = if_some told.caller (λ x. KnowsFront e me u.turns x
+                × (new.caller ≡ Some (caller_of e me (u.turns ++ me ∷ []))))
                 (KnowsFront e me u.turns) (λ x both. both.0) u.calls;
             unplanned = unplanned;
             gone_on = onward e me (after_row e me a got a.stage);
@@ -196,15 +203,15 @@ none-creating stage other ask p creating =
     let no : true ≡ false = ap is_creating (sym creating) ∙ other in cc
 
 -- a row that was done by a scheduler, and by one that stands the same but at its own stage
-pub restaged : (s u t : Scheduler) (stage at : Stage Content) {shared new : Option Shared}
-    {caller now : Option Caller} → stage ≡ at → u.config ≡ s.config → u.trace.now ≡ s.trace.now
+pub restaged : (s u t : Scheduler) (stage at : Stage Content) {told new : Told} → stage ≡ at
+    → u.config ≡ s.config → u.trace.now ≡ s.trace.now
     → u.number ≡ s.number → standing_at stage u ≡ standing_at stage s
-    → DidRow stage u t shared new caller now → DidRow at s t shared new caller now
-restaged s u t stage at {shared} {new} {caller} {now} same config trace number standing d = record {
+    → DidRow stage u t told new → DidRow at s t told new
+restaged s u t stage at {told} {new} same config trace number standing d = record {
   row = d.row;
   got = d.got;
   wanted = ap (λ x. wants (standing_at x s)) (sym same) ∙ (ap wants (sym standing) ∙ d.wanted);
-  did = subst (λ n. Did n d.row d.got shared new caller now) number d.did;
+  did = subst (λ n. Did n d.row d.got told new) number d.did;
   is = d.is ∙ ap (λ c. goes (setup_of c u.trace.now) u.number (standing_at stage u) stage) config
       ∙ ap (λ x. goes (setup_of s.config x) u.number (standing_at stage u) stage) trace
       ∙ ap (λ n. goes (setup_for s) n (standing_at stage u) stage) number
@@ -215,63 +222,61 @@ restaged s u t stage at {shared} {new} {caller} {now} same config trace number s
   goes e me a x = onward e me (after_row e me a d.got x)
 
 -- a scheduler plans a carrier at its own stage
-pub restaged-plans : (s : Scheduler) (stage at : Stage Content) {shared : Option Shared}
-    {caller : Option Caller} → stage ≡ at → PlansAt stage s shared caller
-    → PlansAt at s shared caller
-restaged-plans s stage at {shared} {caller} same =
-    subst (λ x. PlansAt x s shared caller) same
+pub restaged-plans : (s : Scheduler) (stage at : Stage Content) {told : Told} → stage ≡ at
+    → PlansAt stage s told → PlansAt at s told
+restaged-plans s stage at {told} same = subst (λ x. PlansAt x s told) same
 
 -- a step is a row that was done, and the figures observed
-pub row-stepped : (s t : Scheduler) (shared new : Option Shared) (caller now : Option Caller)
-    → IsReady s shared caller → is_ended s.stage ≡ false
-    → ObservedRow s.stage s t shared new caller now
-    → Stepped s.config s.trace.now s.number 1 (actor_of s) (actor_of t) shared new caller now
+pub row-stepped : (s t : Scheduler) (told new : Told) → IsReady s told → is_ended s.stage ≡ false
+    → ObservedRow s.stage s t told new
+    → Stepped s.config s.trace.now s.number 1 (actor_of s) (actor_of t) told new
 unfolding after
-row-stepped s t shared new caller now h goes o =
+row-stepped s t told new h goes o =
     let d = o.row in
     stepped s.config s.trace.now s.number (actor_of s) d.row d.got (actor_of t) d.wanted
-    (stage-goes s.stage goes) (o.is ∙ ap observed d.is) shared new caller now h d.did
+    (stage-goes s.stage goes) (o.is ∙ ap observed d.is) told new h d.did
 
 -- after its steps it stands after as many turns more
-module _ (c : Config) (t : Trace) (me count : ℕ) (a b : Actor) (shared new : Option Shared)
-    (caller now : Option Caller) where
-  ready-again : IsValidConfig c → IsValidTrace c.schedulers t → IsSome shared ⊎ IsSome caller
-      → Stepped c t me count a b shared new caller now → Ready c t me b new now
-  ready-again valid made told o =
+module _ (c : Config) (t : Trace) (me count : ℕ) (a b : Actor) (told new : Told) where
+  ready-again : IsValidConfig c → IsValidTrace c.schedulers t
+      → IsSome told.shared ⊎ IsSome told.caller
+      → Stepped c t me count a b told new → Ready c t me b new
+  ready-again valid made some o =
       let e = setup_of c t in
       let own = replicate count me in
       let before = run e o.turns in
       let then = run_on e before own in
       let same : run e (o.turns ++ own) ≡ then = run-append e (start e) o.turns own in
       let mine = caller_of e me (o.turns ++ own) in
-      let shares = if_some shared (λ s. (s ≡ before.shared) × (new ≡ Some then.shared))
-      (λ s. new ≡ Some then.shared) (λ s both. both.1) o.shares in
-      let calls = if_some caller (λ x. KnowsFront e me o.turns x × (now ≡ Some mine))
-      (λ x. now ≡ Some mine) (λ x both. both.1) o.calls in
+      let shares = if_some told.shared
+      (λ s. (s ≡ before.shared) × (new.shared ≡ Some then.shared))
+      (λ s. new.shared ≡ Some then.shared) (λ s both. both.1) o.shares in
+      let calls = if_some told.caller
+      (λ x. KnowsFront e me o.turns x × (new.caller ≡ Some mine))
+      (λ x. new.caller ≡ Some mine) (λ x both. both.1) o.calls in
       record {
         config = valid;
         trace = made;
         turns = o.turns ++ own;
         actor = ap (λ (w : State). w.actors me) same ∙ sym o.is;
-        shares = told-after shared new (λ s. then.shared)
+        shares = told-after told.shared new.shared (λ s. then.shared)
             (λ s. s ≡ (run e (o.turns ++ own)).shared)
             (λ s. sym (ap (λ (w : State). w.shared) same)) shares o.shares_untold;
-        calls = told-after caller now (λ x. mine) (λ x. x ≡ mine) (λ x. refl) calls o.calls_untold;
-        told = elim told [
-          | inl is ↦ inl (still-told shared new (λ s. then.shared) shares is)
-          | inr is ↦ inr (still-told caller now (λ x. mine) calls is)
+        calls = told-after told.caller new.caller (λ x. mine) (λ x. x ≡ mine) (λ x. refl) calls
+            o.calls_untold;
+        some = elim some [
+          | inl is ↦ inl (still-told told.shared new.shared (λ s. then.shared) shares is)
+          | inr is ↦ inr (still-told told.caller new.caller (λ x. mine) calls is)
         ];
       }
 
 -- so the scheduler is ready again
-pub step-ready : (s t : Scheduler) (count : ℕ) (shared new : Option Shared)
-    (caller now : Option Caller) → t.config ≡ s.config → t.trace ≡ s.trace → t.number ≡ s.number
-    → IsReady s shared caller
-    → Stepped s.config s.trace.now s.number count (actor_of s) (actor_of t) shared new caller now
-    → IsReady t new now
-step-ready s t count shared new caller now config trace number h took =
-    subst (λ n. Ready t.config t.trace.now n (actor_of t) new now) (sym number)
-    (subst (λ (x : Bor Trace). Ready t.config x.now s.number (actor_of t) new now) (sym trace)
-    (subst (λ d. Ready d s.trace.now s.number (actor_of t) new now) (sym config)
-    (ready-again s.config s.trace.now s.number count (actor_of s) (actor_of t) shared new caller now
-    h.config h.trace h.told took)))
+pub step-ready : (s t : Scheduler) (count : ℕ) (told new : Told) → t.config ≡ s.config
+    → t.trace ≡ s.trace → t.number ≡ s.number → IsReady s told
+    → Stepped s.config s.trace.now s.number count (actor_of s) (actor_of t) told new → IsReady t new
+step-ready s t count told new config trace number h took =
+    subst (λ n. Ready t.config t.trace.now n (actor_of t) new) (sym number)
+    (subst (λ (x : Bor Trace). Ready t.config x.now s.number (actor_of t) new) (sym trace)
+    (subst (λ d. Ready d s.trace.now s.number (actor_of t) new) (sym config)
+    (ready-again s.config s.trace.now s.number count (actor_of s) (actor_of t) told new
+    h.config h.trace h.some took)))

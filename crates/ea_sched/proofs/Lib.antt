@@ -12,7 +12,6 @@ pub mod Texts
 pub mod AfterWalk
 pub mod CarrierCalling
 pub mod Carrying
-pub mod InHand
 pub mod Routing
 pub mod Suiting
 pub mod Calling

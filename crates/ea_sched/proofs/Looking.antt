@@ -1,6 +1,5 @@
 -- Where a look of a search leaves a scheduler, by the word that it saw.
 use Rattle.std.proofs.Common.{◌≡◌, ℕ, true, false, sym, ap, ◌∙◌, subst}
-use Rattle.std.specs.Prelude.{Option}
 use Rattle.ea_machine.specs.declared.asks.Ask.{Ask}
 use Rattle.ea_machine.specs.declared.owners.OwnerWord.{OwnerWord}
 use Rattle.ea_machine.specs.declared.parts.Part.{Part}
@@ -13,9 +12,8 @@ use Rattle.ea_machine.specs.Rows.{Saw}
 use Rattle.ea_machine.specs.Searches as machine
 use Rattle.ea_machine.specs.Searches.{fits, goes_on, passed, with_counted}
 use Rattle.ea_machine.specs.Setup.{Setup, greatest_number, migration}
-use Rattle.ea_machine.specs.Shared.{Shared}
 use Rattle.ea_search.specs.Looks.{saw_by}
-use Rattle.ea_shared.specs.Calls.{Caller}
+use Rattle.ea_shared.specs.Calls.{Told}
 use Rattle.ea_sched.specs.declared.state.Scheduler.{Scheduler}
 use Rattle.ea_sched.specs.Acting.{actor_of, ready_of, setup_for, standing_at}
 use Rattle.ea_sched.specs.Steps.{IsReady, IsReadyAt, gone_on_by}
@@ -83,11 +81,9 @@ module _ (s : Scheduler) (on : migration (setup_for s) ≡ true) (ask : Ask) (at
     still-there =
         now ∙ sym (ap (λ n. Searching ask n left) same.0 ∙ ap (Searching ask at) same.1)
 
-    pub still-reached : {shared : Option Shared} {caller : Option Caller}
-        → IsReady s shared caller → (told : Option Shared) × (by : Option Caller)
-        × IsReadyAt (Searching ask to left) s told by
-    still-reached {shared} {caller} h =
-        (shared, caller, subst (λ st. IsReadyAt st s shared caller) still-there h)
+    pub still-reached : {told : Told} → IsReady s told
+        → (told : Told) × IsReadyAt (Searching ask to left) s told
+    still-reached {told} h = (told, subst (λ st. IsReadyAt st s told) still-there h)
 
     pub looked-still : onward e s.number (after_row e s.number
         (standing_at (Searching ask to left) s) (Saw seen) (Searching ask to left)) ≡ after-look

@@ -10,13 +10,13 @@ use Rattle.ea_machine.specs.Owners.{word_of}
 use Rattle.ea_machine.specs.Shared.{Shared}
 use Rattle.ea_machine.specs.State.{State}
 use Rattle.ea_sound.proofs.PassedLooks.{search-passed}
-use Rattle.ea_shared.specs.Calls.{Caller}
+use Rattle.ea_shared.specs.Calls.{Caller, Told}
 use Rattle.ea_shared.specs.Carriers.{CountsNone}
 use Rattle.ea_sched.specs.declared.state.Scheduler.{Scheduler}
 use Rattle.ea_sched.specs.Acting.{actor_of, setup_for, standing_at}
 use Rattle.ea_sched.specs.Looks.{AreLeft}
 use Rattle.ea_sched.specs.Steps.{IsReady, Stepped}
-use Rattle.ea_sched.proofs.Doing.{none-told}
+use Rattle.ea_sched.proofs.Doing.{none-told, telling}
 
 -- fewer steps are left, too
 pub fewer-left : (o : Option ℕ) (most k : ℕ) → AreLeft most o → k ≤ most → AreLeft k o
@@ -32,32 +32,37 @@ module _ (s : Scheduler) (ask : Ask) (at left looked : ℕ)
   me = s.number
 
   -- it is as after that many turns
-  pub looks-stepped : (shared : Option Shared) (caller : Option Caller) → IsReady s shared caller
-      → IfSome shared (CountsNone last at) → IfSome caller (λ x. last ≡ at)
-      → Stepped s.config s.trace.now me count (actor_of s)
-      (standing_at (Searching ask (at - count) (Pool (left - count) looked)) s) shared shared caller
-      caller
-  looks-stepped None None h uncounted beside = absurd (none-told None None refl refl h.told)
-  looks-stepped shared (Some x) h uncounted beside =
-      absurd (omega (arith, some, down, over, beside))
-  looks-stepped (Some x) None h uncounted beside =
-      let e = setup_for s in
-      let w = run e h.turns in
-      let n = at - count in
-      let back : at - n ≡ count = omega (arith, down) in
-      let passed = subst (λ k. let v : State = run_on e w (replicate k me) in
-      (v.shared ≡ w.shared)
-      × (v.actors me ≡ standing_at (Searching ask n (Pool (left - k) looked)) s)) back
-      (search-passed s.config s.trace.now h.config h.trace w (h.turns, refl) me (actor_of s)
-      ask at left looked (h.actor ∙ ap (λ st. standing_at st s) is) n (omega (arith, down))
-      (omega arith) (omega (arith, back, fewer))
-      (λ i low upto. ap (λ (y : Shared). counts (word_of (y.places i))) (sym h.shares)
-      ∙ uncounted i (omega (arith, low, over)) upto)) in record {
-        turns = h.turns;
-        actor = h.actor;
-        is = sym passed.1;
-        shares = (h.shares, ap Some (h.shares ∙ sym passed.0));
-        shares_untold = λ none. none;
-        calls = tt;
-        calls_untold = λ none. refl;
-      }
+  pub looks-stepped : (told : Told) → IsReady s told → IfSome told.shared (CountsNone last at)
+      → IfSome told.caller (λ x. last ≡ at) → Stepped s.config s.trace.now me count (actor_of s)
+      (standing_at (Searching ask (at - count) (Pool (left - count) looked)) s) told told
+  looks-stepped told = by told.shared told.caller where
+    by : (shared : Option Shared) (caller : Option Caller)
+        → IsReady s (telling told shared caller) → IfSome shared (CountsNone last at)
+        → IfSome caller (λ x. last ≡ at) → Stepped s.config s.trace.now me count (actor_of s)
+        (standing_at (Searching ask (at - count) (Pool (left - count) looked)) s)
+        (telling told shared caller) (telling told shared caller)
+    by None None h uncounted beside =
+        absurd (none-told (telling told None None) refl refl h.some)
+    by shared (Some x) h uncounted beside =
+        absurd (omega (arith, some, down, over, beside))
+    by (Some x) None h uncounted beside =
+        let e = setup_for s in
+        let w = run e h.turns in
+        let n = at - count in
+        let back : at - n ≡ count = omega (arith, down) in
+        let passed = subst (λ k. let v : State = run_on e w (replicate k me) in
+        (v.shared ≡ w.shared)
+        × (v.actors me ≡ standing_at (Searching ask n (Pool (left - k) looked)) s)) back
+        (search-passed s.config s.trace.now h.config h.trace w (h.turns, refl) me (actor_of s)
+        ask at left looked (h.actor ∙ ap (λ st. standing_at st s) is) n (omega (arith, down))
+        (omega arith) (omega (arith, back, fewer))
+        (λ i low upto. ap (λ (y : Shared). counts (word_of (y.places i))) (sym h.shares)
+        ∙ uncounted i (omega (arith, low, over)) upto)) in record {
+          turns = h.turns;
+          actor = h.actor;
+          is = sym passed.1;
+          shares = (h.shares, ap Some (h.shares ∙ sym passed.0));
+          shares_untold = λ none. none;
+          calls = tt;
+          calls_untold = λ none. refl;
+        }

@@ -47,7 +47,7 @@ use Rattle.ea_sound.proofs.ReleasingCalls.{own-migrates}
 use Rattle.ea_sound.proofs.WordCalls.{fetch-won}
 use Rattle.ea_names.specs.Holding.{has_place}
 use Rattle.ea_search.specs.Looks.{IsInList}
-use Rattle.ea_shared.specs.Calls.{Caller, Did}
+use Rattle.ea_shared.specs.Calls.{Did, Told}
 use Rattle.ea_shared.specs.Carriers.{IsCarrier, IsPooled}
 use Rattle.ea_sched.specs.declared.state.Scheduler.{Scheduler}
 use Rattle.ea_sched.specs.Acting.{setup_for, standing_at}
@@ -75,8 +75,7 @@ as-carrier : {n m number : ℕ} → n ≡ m → (0 < number) × (number ≤ m * 
 as-carrier same is = (is.0, omega (arith, is.1, ap (λ n. NUMBERS * n) same))
 
 -- a scheduler that is ready for its row, at a stage
-module _ {stage : Stage Content} (s : Scheduler) {shared : Option Shared} {caller : Option Caller}
-    (h : IsReadyAt stage s shared caller) where
+module _ {stage : Stage Content} (s : Scheduler) {told : Told} (h : IsReadyAt stage s told) where
   abbrev me : ℕ
   me = s.number
 
@@ -198,8 +197,8 @@ module _ {stage : Stage Content} (s : Scheduler) {shared : Option Shared} {calle
         (subst (λ (x : Actor). observed x ≡ x) h.actor (reached-observed e me w reached))
 
     -- after its look the figures are observed as they were before
-    pub search-observed : {t : Scheduler} {new : Option Shared} {then : Option Caller}
-        → DidRow stage s t shared new caller then → ObservedRow stage s t shared new caller then
+    pub search-observed : {t : Scheduler} {new : Told}
+        → DidRow stage s t told new → ObservedRow stage s t told new
     search-observed {t} did = record {
       gone_on = t;
       row = did;
@@ -247,11 +246,10 @@ module _ {stage : Stage Content} (s : Scheduler) {shared : Option Shared} {calle
     fetch-asked i t names moves = ask-asked ask fetches.0 fetch-on t names moves i
 
     -- the try was won
-    module _ {new : Option Shared} {then : Option Caller} (x : Content)
-        (did : Did me (FetchTry at seen) (Won x) shared new caller then) where
-      u : Answered e me (standing_at stage s) (FetchTry at seen) (Won x) shared caller then
+    module _ {new : Told} (x : Content) (did : Did me (FetchTry at seen) (Won x) told new) where
+      u : Answered e me (standing_at stage s) (FetchTry at seen) (Won x) told new
       u = answered-so s.config s.trace.now me (standing_at stage s) (FetchTry at seen) (Won x)
-          shared new caller then h did
+          told new h did
 
       -- it stood so in this state
       abbrev v : State
@@ -336,9 +334,8 @@ module _ {stage : Stage Content} (s : Scheduler) {shared : Option Shared} {calle
             → n ≤ NUMBERS * count
         below n own same = omega (arith, own, number.1, ap (λ k. NUMBERS * k) same)
 
-    pub create-absent : IfSome shared (λ x. x.places p.number ≡ owners.Absent)
-    create-absent = if_some shared (λ x. x ≡ w.shared)
-        (λ x. x.places p.number ≡ owners.Absent)
+    pub create-absent : IfSome told.shared (λ x. x.places p.number ≡ owners.Absent)
+    create-absent = if_some told.shared (λ x. x ≡ w.shared) (λ x. x.places p.number ≡ owners.Absent)
         (λ x same. subst (λ (y : Shared). y.places p.number ≡ owners.Absent) (sym same)
         created-at.1) h.shares
 

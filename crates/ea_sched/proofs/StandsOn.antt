@@ -8,9 +8,8 @@ use Rattle.ea_machine.specs.declared.stages.Stage.TheVariants.{Ready}
 use Rattle.ea_machine.specs.Actor.{Actor}
 use Rattle.ea_machine.specs.Setup.{Setup, migration, setup_of}
 use Rattle.ea_machine.specs.Machine.{IsReached, run}
-use Rattle.ea_machine.specs.Shared.{Shared}
 use Rattle.ea_machine.specs.State.{State}
-use Rattle.ea_shared.specs.Calls.{Caller}
+use Rattle.ea_shared.specs.Calls.{Told}
 use Rattle.ea_sound.specs.Present.{Fits}
 use Rattle.ea_sound.proofs.Asked.{reached-rule}
 use Rattle.ea_sound.proofs.OffStages.{IsOffStage, is-off}
@@ -20,8 +19,7 @@ use Rattle.ea_sched.specs.Acting.{IsSame, setup_for}
 use Rattle.ea_sched.specs.Steps.{IsReadyAt, StartsRow}
 
 -- a scheduler that is ready for its row, at a stage
-module _ {stage : Stage Content} (s : Scheduler) {shared : Option Shared} {caller : Option Caller}
-    (h : IsReadyAt stage s shared caller) where
+module _ {stage : Stage Content} (s : Scheduler) {told : Told} (h : IsReadyAt stage s told) where
   abbrev e : Setup
   e = setup_for s
 
@@ -57,9 +55,8 @@ module _ {stage : Stage Content} (s : Scheduler) {shared : Option Shared} {calle
       (rule.present.fits s.number)
 
 -- so do those of what is shared
-pub moves-on : {stage : Stage Content} {count last : ℕ} {moves : Bool} {shared : Option Shared}
-    {caller : Option Caller} (s : Scheduler) → StartsRow stage s count last moves shared caller
-    → (IsOffStage stage → ⊥) → moves ≡ true
+pub moves-on : {stage : Stage Content} {told : Told} (s : Scheduler) → StartsRow stage s told
+    → (IsOffStage stage → ⊥) → told.migrates ≡ true
 moves-on s starts never = starts.migrates ∙ stands-on s starts.ready never
 
 -- it stays in the same run

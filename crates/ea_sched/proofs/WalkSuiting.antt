@@ -1,5 +1,4 @@
--- After the row of a route that is over, or once a carrier was collected, the scheduler may work off
--- its walk.
+-- After a route that is over, or a carrier that was collected, the scheduler can work off its walk.
 use Rattle.std.proofs.Common.{◌≡◌, ℕ, refl, sym, ap, ◌∙◌, subst}
 use Rattle.std.specs.Prelude.{None, Option}
 use Rattle.ea_model.specs.Content.{Content}
@@ -24,7 +23,7 @@ use Rattle.ea_sound.proofs.Assembly.{HoldsAt}
 use Rattle.ea_sound.proofs.CarrierCalls.{turned-walk, walks}
 use Rattle.ea_sound.proofs.ShortRoutes.{turned-keeps}
 use Rattle.ea_sound.proofs.WalkCalls.{collected-walks}
-use Rattle.ea_shared.specs.Calls.{Caller}
+use Rattle.ea_shared.specs.Calls.{Told}
 use Rattle.ea_sched.specs.declared.routes.Turned.{Turned}
 use Rattle.ea_sched.specs.declared.state.Scheduler.{Scheduler}
 use Rattle.ea_sched.specs.Acting.{IsSame, setup_for, standing_at}
@@ -57,9 +56,8 @@ module _ (s t : Scheduler) (same : IsSame s t) (valid : IsValidConfig s.config)
 
 -- the row of a route was done, and the route is over
 module _ (s t : Scheduler) (same : IsSame s t) (route : Route Content) (gone : Gone)
-    {shared new : Option Shared} {caller then : Option Caller}
-    (h : IsReadyAt (Routed route Walk gone) s shared caller) (left : Turned)
-    (row : TurnedRow route gone s t left shared new caller then) (over : left.route ≡ None) where
+    {told new : Told} (h : IsReadyAt (Routed route Walk gone) s told) (left : Turned)
+    (row : TurnedRow route gone s t left told new) (over : left.route ≡ None) where
   abbrev e : Setup
   e = setup_for s
 
@@ -78,7 +76,7 @@ module _ (s t : Scheduler) (same : IsSame s t) (route : Route Content) (gone : G
   number : IsScheduler s.config.schedulers me
   number = (s.number_from, s.number_to)
 
-  u : Answered e me a (wants_on route) row.got shared caller then
+  u : Answered e me a (wants_on route) row.got told new
   u = in-answered s h (wants_on route) row.got row.did
 
   -- it stood so in this state
@@ -113,8 +111,8 @@ module _ (s t : Scheduler) (same : IsSame s t) (route : Route Content) (gone : G
       Walk turn.gone turn.actor) (sym (ap (λ (x : releases.Turned). x.route) so) ∙ over) holds)
 
 -- a carrier was collected
-module _ (s t : Scheduler) (same : IsSame s t) (n : ℕ) {shared : Option Shared}
-    {caller : Option Caller} (h : IsReadyAt (Collecting n) s shared caller) where
+module _ (s t : Scheduler) (same : IsSame s t) (n : ℕ) {told : Told}
+    (h : IsReadyAt (Collecting n) s told) where
   abbrev w : State
   w = run (setup_for s) h.turns
 
@@ -124,8 +122,7 @@ module _ (s t : Scheduler) (same : IsSame s t) (n : ℕ) {shared : Option Shared
   abbrev cleared : Shared
   cleared = effect s.number (Clear n) w.shared
 
-  pub works-collected : {new : Option Shared} {then : Option Caller}
-      → CollectedRow n s t shared new caller then → CanWorkOff t t.passed.nodes
+  pub works-collected : {new : Told} → CollectedRow n s t told new → CanWorkOff t t.passed.nodes
   works-collected row = works-same s t same h.config h.trace w reached cleared
       (disowned n (struck n (standing_at (Collecting n) s))) (ap (λ (b : Actor). b.todo) h.actor)
       (row.is Begin)

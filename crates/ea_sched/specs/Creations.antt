@@ -13,9 +13,8 @@ use Rattle.ea_machine.specs.Actor.{Actor}
 use Rattle.ea_machine.specs.Machine.{run, step}
 use Rattle.ea_machine.specs.Placements.{making}
 use Rattle.ea_machine.specs.Setup.{Setup, migration, setup_of}
-use Rattle.ea_machine.specs.Shared.{Shared}
 use Rattle.ea_machine.specs.Statistics.{observed}
-use Rattle.ea_shared.specs.Calls.{Caller, KnowsFront}
+use Rattle.ea_shared.specs.Calls.{KnowsFront, Told}
 use Rattle.ea_sched.specs.declared.state.Scheduler.{Scheduler}
 use Rattle.ea_sched.specs.Acting.{setup_for, standing_at}
 
@@ -34,21 +33,19 @@ pub record HasPlanned (setup : Setup) (me : ℕ) (i : Instance) (a : Actor) : Ty
 -- scheduler `me` stands so after these turns of the run, where what is shared is as it is told. The
 -- caller, where that is told, knew all of these but the last ones, which were turns of others. The
 -- scheduler has no carrier to create there, and by its step it plans a multiblock carrier
-pub record Plans (c : Config) (t : Trace) (me : ℕ) (a : Actor) (shared : Option Shared)
-    (caller : Option Caller) : Type 0 where
+pub record Plans (c : Config) (t : Trace) (me : ℕ) (a : Actor) (told : Told) : Type 0 where
   pub turns : List ℕ
   pub actor : (run (setup_of c t) turns).actors me ≡ a
-  pub shares : IfSome shared (λ s. s ≡ (run (setup_of c t) turns).shared)
-  pub calls : IfSome caller (KnowsFront (setup_of c t) me turns)
+  pub shares : IfSome told.shared (λ s. s ≡ (run (setup_of c t) turns).shared)
+  pub calls : IfSome told.caller (KnowsFront (setup_of c t) me turns)
   pub unplanned : (ask : Ask) (plan : CarrierPlan) → a.stage ≢ Creating ask plan
   pub gone_on : Actor
   pub planned : HasPlanned (setup_of c t) me a.instance gone_on
   pub is : (step (setup_of c t) (run (setup_of c t) turns) me).actors me ≡ observed gone_on
 
 -- the scheduler stands so, at a stage
-abbrev pub PlansAt : Stage Content → Scheduler → Option Shared → Option Caller → Type 0
-PlansAt stage s shared caller =
-    Plans s.config s.trace.now s.number (standing_at stage s) shared caller
+abbrev pub PlansAt : Stage Content → Scheduler → Told → Type 0
+PlansAt stage s told = Plans s.config s.trace.now s.number (standing_at stage s) told
 
 -- the actor has planned one that the scheduler's instance is to create next
 abbrev pub PlansFrom : Scheduler → Actor → Type 0

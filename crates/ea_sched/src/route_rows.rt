@@ -26,14 +26,11 @@ impl<'t> Scheduler<'t> {
         hand: Named,
         gone: Gone,
     ) -> Turned
-        requires starts { StartsRoute (route.Looking hand) gone self.old
-            (S.schedulers shared.old) (S.greatest shared.old) (S.migrates shared.old)
-            (S.shared shared.old) (S.caller shared.old) }
+        requires starts { StartsRoute (route.Looking hand) gone self.old (S.told shared.old) }
         ensures stays { S.stays shared.old shared.new }
         ensures same { IsSame self.old self.new }
         ensures row { TurnedRow (route.Looking hand) gone self.old self.new result
-            (S.shared shared.old) (S.shared shared.new) (S.caller shared.old)
-            (S.caller shared.new) }
+            (S.told shared.old) (S.told shared.new) }
     {
         let seen = shared.look(self.number, hand.spot.carrier);
         self.looked(hand, seen, gone)
@@ -48,13 +45,10 @@ impl<'t> Scheduler<'t> {
         seen: OwnerWord,
         gone: Gone,
     ) -> Turned
-        requires starts { StartsRoute (route.Trying hand seen) gone self.now
-            (S.schedulers shared.old) (S.greatest shared.old) (S.migrates shared.old)
-            (S.shared shared.old) (S.caller shared.old) }
+        requires starts { StartsRoute (route.Trying hand seen) gone self.now (S.told shared.old) }
         ensures stays { S.stays shared.old shared.new }
         ensures row { TurnedRow (route.Trying hand seen) gone self.now self.now result
-            (S.shared shared.old) (S.shared shared.new) (S.caller shared.old)
-            (S.caller shared.new) }
+            (S.told shared.old) (S.told shared.new) }
     {
         match shared.busy_try(self.number, hand.spot.carrier, seen) {
             Tried::Won { mut content } => {
@@ -75,14 +69,11 @@ impl<'t> Scheduler<'t> {
         content: Held,
         gone: Gone,
     ) -> Turned
-        requires starts { StartsRoute (route.Settling content) gone self.old
-            (S.schedulers shared.old) (S.greatest shared.old) (S.migrates shared.old)
-            (S.shared shared.old) (S.caller shared.old) }
+        requires starts { StartsRoute (route.Settling content) gone self.old (S.told shared.old) }
         ensures stays { S.stays shared.old shared.new }
         ensures same { IsSame self.old self.new }
         ensures row { TurnedRow (route.Settling content) gone self.old self.new result
-            (S.shared shared.old) (S.shared shared.new) (S.caller shared.old)
-            (S.caller shared.new) }
+            (S.told shared.old) (S.told shared.new) }
     {
         let number = content.number();
         if content.is_empty() {
@@ -116,14 +107,11 @@ impl<'t> Scheduler<'t> {
         content: Held,
         gone: Gone,
     ) -> Turned
-        requires starts { StartsRoute (route.Abandoning content) gone self.old
-            (S.schedulers shared.old) (S.greatest shared.old) (S.migrates shared.old)
-            (S.shared shared.old) (S.caller shared.old) }
+        requires starts { StartsRoute (route.Abandoning content) gone self.old (S.told shared.old) }
         ensures stays { S.stays shared.old shared.new }
         ensures same { IsSame self.old self.new }
         ensures row { TurnedRow (route.Abandoning content) gone self.old self.new result
-            (S.shared shared.old) (S.shared shared.new) (S.caller shared.old)
-            (S.caller shared.new) }
+            (S.told shared.old) (S.told shared.new) }
     {
         let number = content.number();
         let carrier = content.into_multi();
@@ -140,13 +128,10 @@ impl<'t> Scheduler<'t> {
         content: Held,
         gone: Gone,
     ) -> Turned
-        requires starts { StartsRoute (route.Sending content) gone self.now
-            (S.schedulers shared.old) (S.greatest shared.old) (S.migrates shared.old)
-            (S.shared shared.old) (S.caller shared.old) }
+        requires starts { StartsRoute (route.Sending content) gone self.now (S.told shared.old) }
         ensures stays { S.stays shared.old shared.new }
         ensures row { TurnedRow (route.Sending content) gone self.now self.now result
-            (S.shared shared.old) (S.shared shared.new) (S.caller shared.old)
-            (S.caller shared.new) }
+            (S.told shared.old) (S.told shared.new) }
     {
         let number = content.number();
         let to = owner_of(number);
@@ -164,14 +149,11 @@ impl<'t> Scheduler<'t> {
         content: Held,
         gone: Gone,
     ) -> Turned
-        requires starts { StartsRoute (route.Clearing content) gone self.old
-            (S.schedulers shared.old) (S.greatest shared.old) (S.migrates shared.old)
-            (S.shared shared.old) (S.caller shared.old) }
+        requires starts { StartsRoute (route.Clearing content) gone self.old (S.told shared.old) }
         ensures stays { S.stays shared.old shared.new }
         ensures same { IsSame self.old self.new }
         ensures row { TurnedRow (route.Clearing content) gone self.old self.new result
-            (S.shared shared.old) (S.shared shared.new) (S.caller shared.old)
-            (S.caller shared.new) }
+            (S.told shared.old) (S.told shared.new) }
     {
         let number = content.number();
         shared.clear_own(self.number, number);
@@ -188,13 +170,10 @@ impl<'t> Scheduler<'t> {
         to: u32,
         gone: Gone,
     ) -> Turned
-        requires starts { StartsRoute (route.Pushing node to) gone self.now
-            (S.schedulers shared.old) (S.greatest shared.old) (S.migrates shared.old)
-            (S.shared shared.old) (S.caller shared.old) }
+        requires starts { StartsRoute (route.Pushing node to) gone self.now (S.told shared.old) }
         ensures stays { S.stays shared.old shared.new }
         ensures row { TurnedRow (route.Pushing node to) gone self.now self.now result
-            (S.shared shared.old) (S.shared shared.new) (S.caller shared.old)
-            (S.caller shared.new) }
+            (S.told shared.old) (S.told shared.new) }
     {
         shared.push(self.number, to, node);
         let route = Some(Route::Linking { node, to });
@@ -209,13 +188,10 @@ impl<'t> Scheduler<'t> {
         to: u32,
         gone: Gone,
     ) -> Turned
-        requires starts { StartsRoute (route.Linking node to) gone self.now
-            (S.schedulers shared.old) (S.greatest shared.old) (S.migrates shared.old)
-            (S.shared shared.old) (S.caller shared.old) }
+        requires starts { StartsRoute (route.Linking node to) gone self.now (S.told shared.old) }
         ensures stays { S.stays shared.old shared.new }
         ensures row { TurnedRow (route.Linking node to) gone self.now self.now result
-            (S.shared shared.old) (S.shared shared.new) (S.caller shared.old)
-            (S.caller shared.new) }
+            (S.told shared.old) (S.told shared.new) }
     {
         shared.link(self.number, to, node);
         Turned { route: None, gone }

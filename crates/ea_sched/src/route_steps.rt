@@ -26,14 +26,11 @@ impl<'t> Scheduler<'t> {
         route: Route<Held>,
         gone: Gone,
     ) -> Turned
-        requires starts { StartsRoute route gone self.old
-            (S.schedulers shared.old) (S.greatest shared.old) (S.migrates shared.old)
-            (S.shared shared.old) (S.caller shared.old) }
+        requires starts { StartsRoute route gone self.old (S.told shared.old) }
         ensures stays { S.stays shared.old shared.new }
         ensures same { IsSame self.old self.new }
-        ensures row { TurnedRow route gone self.old self.new result
-            (S.shared shared.old) (S.shared shared.new) (S.caller shared.old)
-            (S.caller shared.new) }
+        ensures row { TurnedRow route gone self.old self.new result (S.told shared.old)
+            (S.told shared.new) }
     {
         match route {
             Route::Looking { hand } => self.look(shared, hand, gone),
@@ -86,16 +83,13 @@ impl<'t> Scheduler<'t> {
         why: Why,
         gone: Gone,
     ) -> Result<(), OutOfMemory>
-        requires starts { StartsRow (stage.Routed route why gone) self.old
-            (S.schedulers shared.old) (S.greatest shared.old) (S.migrates shared.old)
-            (S.shared shared.old) (S.caller shared.old) }
+        requires starts { StartsRow (stage.Routed route why gone) self.old (S.told shared.old) }
         ensures stays { S.stays shared.old shared.new }
         ensures same { IsSame self.old self.new }
         ensures row { OnOk result (DidRow (stage.Routed route why gone) self.old self.new
-            (S.shared shared.old) (S.shared shared.new) (S.caller shared.old)
-            (S.caller shared.new)) }
+            (S.told shared.old) (S.told shared.new)) }
         ensures memory { OnErr result (PlansAt (stage.Routed route why gone) self.old
-            (S.shared shared.old) (S.caller shared.old)) }
+            (S.told shared.old)) }
     {
         let turned = self.route_row(shared, route, gone);
         self.carry(alloc, why, turned)

@@ -22,18 +22,14 @@ impl<'t> Scheduler<'t> {
         alloc: Global,
         shared: &mut S,
     ) -> Result<(), OutOfMemory>
-        requires starts { StartsRow stage.Begin self.old
-            (S.schedulers shared.old) (S.greatest shared.old) (S.migrates shared.old)
-            (S.shared shared.old) (S.caller shared.old) }
+        requires starts { StartsRow stage.Begin self.old (S.told shared.old) }
         requires stage { self.old.stage ≡ stage.Begin }
         requires next { self.old.next ≡ None }
         ensures stays { S.stays shared.old shared.new }
         ensures same { IsSame self.old self.new }
-        ensures row { OnOk result (DidRow stage.Begin self.old self.new
-            (S.shared shared.old) (S.shared shared.new)
-            (S.caller shared.old) (S.caller shared.new)) }
-        ensures memory { OnErr result (PlansAt stage.Begin self.old
-            (S.shared shared.old) (S.caller shared.old)) }
+        ensures row { OnOk result (DidRow stage.Begin self.old self.new (S.told shared.old)
+            (S.told shared.new)) }
+        ensures memory { OnErr result (PlansAt stage.Begin self.old (S.told shared.old)) }
     {
         match shared.take_all(self.number) {
             None => self.go_on(alloc),
@@ -52,18 +48,14 @@ impl<'t> Scheduler<'t> {
         shared: &mut S,
         node: Node,
     ) -> Result<(), OutOfMemory>
-        requires starts { StartsRow stage.Begin self.old
-            (S.schedulers shared.old) (S.greatest shared.old) (S.migrates shared.old)
-            (S.shared shared.old) (S.caller shared.old) }
+        requires starts { StartsRow stage.Begin self.old (S.told shared.old) }
         requires stage { self.old.stage ≡ stage.Begin }
         requires next { self.old.next ≡ Some node }
         ensures stays { S.stays shared.old shared.new }
         ensures same { IsSame self.old self.new }
-        ensures row { OnOk result (DidRow stage.Begin self.old self.new
-            (S.shared shared.old) (S.shared shared.new)
-            (S.caller shared.old) (S.caller shared.new)) }
-        ensures memory { OnErr result (PlansAt stage.Begin self.old
-            (S.shared shared.old) (S.caller shared.old)) }
+        ensures row { OnOk result (DidRow stage.Begin self.old self.new (S.told shared.old)
+            (S.told shared.new)) }
+        ensures memory { OnErr result (PlansAt stage.Begin self.old (S.told shared.old)) }
     {
         match shared.take_link(self.number, node) {
             Link::Rest => self.go_on(alloc),
@@ -83,13 +75,11 @@ impl<'t> Scheduler<'t> {
     /// A carrier of the scheduler's own that came home is cleared: its number and pages are free
     /// again.
     fn collect<S: Shared<Content = Mbc>>(&mut self, shared: &mut S, number: u32)
-        requires starts { StartsRow (stage.Collecting number) self.old
-            (S.schedulers shared.old) (S.greatest shared.old) (S.migrates shared.old)
-            (S.shared shared.old) (S.caller shared.old) }
+        requires starts { StartsRow (stage.Collecting number) self.old (S.told shared.old) }
         ensures stays { S.stays shared.old shared.new }
         ensures same { IsSame self.old self.new }
-        ensures row { CollectedRow number self.old self.new (S.shared shared.old)
-            (S.shared shared.new) (S.caller shared.old) (S.caller shared.new) }
+        ensures row { CollectedRow number self.old self.new (S.told shared.old)
+            (S.told shared.new) }
     {
         let content = Held::multi(shared.clear_returned(self.number, number));
         self.lists.remove(number);
@@ -104,16 +94,13 @@ impl<'t> Scheduler<'t> {
         shared: &mut S,
         number: u32,
     ) -> Result<(), OutOfMemory>
-        requires starts { StartsRow (stage.Collecting number) self.old
-            (S.schedulers shared.old) (S.greatest shared.old) (S.migrates shared.old)
-            (S.shared shared.old) (S.caller shared.old) }
+        requires starts { StartsRow (stage.Collecting number) self.old (S.told shared.old) }
         ensures stays { S.stays shared.old shared.new }
         ensures same { IsSame self.old self.new }
         ensures row { OnOk result (DidRow (stage.Collecting number) self.old self.new
-            (S.shared shared.old) (S.shared shared.new) (S.caller shared.old)
-            (S.caller shared.new)) }
+            (S.told shared.old) (S.told shared.new)) }
         ensures memory { OnErr result (PlansAt (stage.Collecting number) self.old
-            (S.shared shared.old) (S.caller shared.old)) }
+            (S.told shared.old)) }
     {
         self.collect(shared, number);
         self.end_walk(alloc)
@@ -121,14 +108,11 @@ impl<'t> Scheduler<'t> {
 
     /// A held name is given, to whoever takes it.
     pub(crate) fn give<S: Shared<Content = Mbc>>(&mut self, shared: &mut S, given: Named, to: u32)
-        requires starts { StartsRow (stage.Giving given to) self.old
-            (S.schedulers shared.old) (S.greatest shared.old) (S.migrates shared.old)
-            (S.shared shared.old) (S.caller shared.old) }
+        requires starts { StartsRow (stage.Giving given to) self.old (S.told shared.old) }
         ensures stays { S.stays shared.old shared.new }
         ensures same { IsSame self.old self.new }
-        ensures row { DidRow (stage.Giving given to) self.old self.new
-            (S.shared shared.old) (S.shared shared.new)
-            (S.caller shared.old) (S.caller shared.new) }
+        ensures row { DidRow (stage.Giving given to) self.old self.new (S.told shared.old)
+            (S.told shared.new) }
     {
         shared.give(self.number, given.name, given.spot);
         self.gave(given, to);
@@ -142,14 +126,11 @@ impl<'t> Scheduler<'t> {
         tries: u32,
         left: u32,
     )
-        requires starts { StartsRow (stage.Taking name tries left) self.old
-            (S.schedulers shared.old) (S.greatest shared.old) (S.migrates shared.old)
-            (S.shared shared.old) (S.caller shared.old) }
+        requires starts { StartsRow (stage.Taking name tries left) self.old (S.told shared.old) }
         ensures stays { S.stays shared.old shared.new }
         ensures same { IsSame self.old self.new }
-        ensures row { DidRow (stage.Taking name tries left) self.old self.new
-            (S.shared shared.old) (S.shared shared.new)
-            (S.caller shared.old) (S.caller shared.new) }
+        ensures row { DidRow (stage.Taking name tries left) self.old self.new (S.told shared.old)
+            (S.told shared.new) }
     {
         let found = shared.take_try(self.number, name);
         self.took(name, tries, left, found);

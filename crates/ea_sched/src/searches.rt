@@ -131,18 +131,14 @@ impl<'t> Scheduler<'t> {
         alloc: Global,
         shared: &mut S,
     ) -> Result<(), OutOfMemory>
-        requires starts { StartsRow self.old.stage self.old
-            (S.schedulers shared.old) (S.greatest shared.old) (S.migrates shared.old)
-            (S.shared shared.old) (S.caller shared.old) }
+        requires starts { StartsRow self.old.stage self.old (S.told shared.old) }
         requires searches { (ask : Ask) × (at : ℕ) × (part : Part)
             × (self.old.stage ≡ stage.Searching ask at part) }
         ensures stays { S.stays shared.old shared.new }
         ensures same { IsSame self.old self.new }
-        ensures row { OnOk result (DidRow self.old.stage self.old self.new
-            (S.shared shared.old) (S.shared shared.new) (S.caller shared.old)
-            (S.caller shared.new)) }
-        ensures memory { OnErr result (PlansAt self.old.stage self.old
-            (S.shared shared.old) (S.caller shared.old)) }
+        ensures row { OnOk result (DidRow self.old.stage self.old self.new (S.told shared.old)
+            (S.told shared.new)) }
+        ensures memory { OnErr result (PlansAt self.old.stage self.old (S.told shared.old)) }
     {
         let highest = self.greatest();
         let Stage::Searching { at, part, .. } = &mut self.stage else {
@@ -161,17 +157,14 @@ impl<'t> Scheduler<'t> {
     /// another one.
     #[inline(always)]
     pub(crate) fn pass_looks<S: Shared<Content = Mbc>>(&mut self, shared: &S, most: u32) -> u32
-        requires starts { StartsRow self.old.stage self.old
-            (S.schedulers shared.now) (S.greatest shared.now) (S.migrates shared.now)
-            (S.shared shared.now) (S.caller shared.now) }
+        requires starts { StartsRow self.old.stage self.old (S.told shared.now) }
         ensures few { result ≤ most }
         ensures none { result ≡ 0 → self.new ≡ self.old }
         ensures run { (self.new.config ≡ self.old.config) × (self.new.trace ≡ self.old.trace)
             × (self.new.number ≡ self.old.number) }
         ensures failed { self.new.failed ≡ self.old.failed }
         ensures step { 1 ≤ result → Stepped self.old.config self.old.trace.now self.old.number
-            result (actor_of self.old) (actor_of self.new) (S.shared shared.now)
-            (S.shared shared.now) (S.caller shared.now) (S.caller shared.now) }
+            result (actor_of self.old) (actor_of self.new) (S.told shared.now) (S.told shared.now) }
         ensures left { 1 ≤ result → AreLeft result self.old.left
             × (self.new.left ≡ stops.less self.old.left result) }
         ensures looks { 1 ≤ result → IsQuiet self.old self.new }
@@ -213,16 +206,13 @@ impl<'t> Scheduler<'t> {
         part: Part,
         seen: OwnerWord,
     ) -> Result<(), OutOfMemory>
-        requires starts { StartsRow (stage.Fetching ask at part seen) self.old
-            (S.schedulers shared.old) (S.greatest shared.old) (S.migrates shared.old)
-            (S.shared shared.old) (S.caller shared.old) }
+        requires starts { StartsRow (stage.Fetching ask at part seen) self.old (S.told shared.old) }
         ensures stays { S.stays shared.old shared.new }
         ensures same { IsSame self.old self.new }
         ensures row { OnOk result (DidRow (stage.Fetching ask at part seen) self.old self.new
-            (S.shared shared.old) (S.shared shared.new) (S.caller shared.old)
-            (S.caller shared.new)) }
+            (S.told shared.old) (S.told shared.new)) }
         ensures memory { OnErr result (PlansAt (stage.Fetching ask at part seen) self.old
-            (S.shared shared.old) (S.caller shared.old)) }
+            (S.told shared.old)) }
     {
         let highest = self.greatest();
         let mut search = Search { highest, at, part };
@@ -248,17 +238,14 @@ impl<'t> Scheduler<'t> {
         ask: Ask,
         plan: CarrierPlan,
     )
-        requires starts { StartsRow (stage.Creating ask plan) self.old
-            (S.schedulers shared.old) (S.greatest shared.old) (S.migrates shared.old)
-            (S.shared shared.old) (S.caller shared.old) }
+        requires starts { StartsRow (stage.Creating ask plan) self.old (S.told shared.old) }
         requires stage { self.old.stage ≡ stage.Begin }
         requires prepared { plan.single ≡ false
             → self.old.prepared ≡ Some (planned_content plan) }
         ensures stays { S.stays shared.old shared.new }
         ensures same { IsSame self.old self.new }
-        ensures row { DidRow (stage.Creating ask plan) self.old self.new
-            (S.shared shared.old) (S.shared shared.new) (S.caller shared.old)
-            (S.caller shared.new) }
+        ensures row { DidRow (stage.Creating ask plan) self.old self.new (S.told shared.old)
+            (S.told shared.new) }
     {
         shared.create(self.number, plan.number);
         let prepared = self.prepared.take();

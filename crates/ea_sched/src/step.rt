@@ -39,19 +39,15 @@ impl<'t> Scheduler<'t> {
         alloc: Global,
         shared: &mut S,
     ) -> Result<(), OutOfMemory>
-        requires starts { StartsRow self.old.stage self.old
-            (S.schedulers shared.old) (S.greatest shared.old) (S.migrates shared.old)
-            (S.shared shared.old) (S.caller shared.old) }
+        requires starts { StartsRow self.old.stage self.old (S.told shared.old) }
         requires goes { is_ended self.old.stage ≡ false }
         requires other { (ask : Ask) (at : ℕ) (part : Part)
             → self.old.stage ≢ stage.Searching ask at part }
         ensures stays { S.stays shared.old shared.new }
         ensures same { IsSame self.old self.new }
-        ensures row { OnOk result (DidRow self.old.stage self.old self.new
-            (S.shared shared.old) (S.shared shared.new)
-            (S.caller shared.old) (S.caller shared.new)) }
-        ensures memory { OnErr result (PlansAt self.old.stage self.old
-            (S.shared shared.old) (S.caller shared.old)) }
+        ensures row { OnOk result (DidRow self.old.stage self.old self.new (S.told shared.old)
+            (S.told shared.new)) }
+        ensures memory { OnErr result (PlansAt self.old.stage self.old (S.told shared.old)) }
     {
         match mem::replace(&mut self.stage, Stage::Begin) {
             Stage::Begin => match self.next {
@@ -89,17 +85,13 @@ impl<'t> Scheduler<'t> {
         alloc: Global,
         shared: &mut S,
     ) -> Result<(), OutOfMemory>
-        requires starts { StartsRow self.old.stage self.old
-            (S.schedulers shared.old) (S.greatest shared.old) (S.migrates shared.old)
-            (S.shared shared.old) (S.caller shared.old) }
+        requires starts { StartsRow self.old.stage self.old (S.told shared.old) }
         requires goes { is_ended self.old.stage ≡ false }
         ensures stays { S.stays shared.old shared.new }
         ensures same { IsSame self.old self.new }
-        ensures row { OnOk result (ObservedRow self.old.stage self.old self.new
-            (S.shared shared.old) (S.shared shared.new)
-            (S.caller shared.old) (S.caller shared.new)) }
-        ensures memory { OnErr result (PlansAt self.old.stage self.old
-            (S.shared shared.old) (S.caller shared.old)) }
+        ensures row { OnOk result (ObservedRow self.old.stage self.old self.new (S.told shared.old)
+            (S.told shared.new)) }
+        ensures memory { OnErr result (PlansAt self.old.stage self.old (S.told shared.old)) }
     {
         if let Stage::Searching { .. } = self.stage {
             return self.search(alloc, shared);
@@ -120,21 +112,19 @@ impl<'t> Scheduler<'t> {
         shared: &mut S,
         most: u32,
     ) -> Result<u32, OutOfMemory>
-        requires schedulers { S.schedulers shared.old ≡ self.old.config.schedulers }
-        requires greatest { S.greatest shared.old ≡ self.old.trace.now.greatest }
-        requires migrates { S.migrates shared.old ≡ migration (setup_for self.old) }
-        requires ready { self.old.failed ≡ false
-            → IsReady self.old (S.shared shared.old) (S.caller shared.old) }
+        requires schedulers { (S.told shared.old).schedulers ≡ self.old.config.schedulers }
+        requires greatest { (S.told shared.old).greatest ≡ self.old.trace.now.greatest }
+        requires migrates { (S.told shared.old).migrates ≡ migration (setup_for self.old) }
+        requires ready { self.old.failed ≡ false → IsReady self.old (S.told shared.old) }
         requires some { 1 ≤ most }
         ensures stays { S.stays shared.old shared.new }
         ensures run { (self.new.config ≡ self.old.config) × (self.new.trace ≡ self.old.trace)
             × (self.new.number ≡ self.old.number) }
         ensures few { IfOk result (λ taken. taken ≤ most) }
-        ensures step { IfOk result (λ taken. 1 ≤ taken → Stepped self.old.config
-            self.old.trace.now self.old.number taken (actor_of self.old) (actor_of self.new)
-            (S.shared shared.old) (S.shared shared.new) (S.caller shared.old)
-            (S.caller shared.new)) }
-        ensures ready { OnOk result (IsReady self.new (S.shared shared.new) (S.caller shared.new)) }
+        ensures step { IfOk result (λ taken. 1 ≤ taken → Stepped self.old.config self.old.trace.now
+            self.old.number taken (actor_of self.old) (actor_of self.new) (S.told shared.old)
+            (S.told shared.new)) }
+        ensures ready { OnOk result (IsReady self.new (S.told shared.new)) }
         ensures goes { OnOk result (self.old.failed ≡ false × self.new.failed ≡ false) }
         ensures went { IfOk result (λ taken. 1 ≤ taken
             → (rests self.old ≡ false) × ((actor_of self.old).stage ≢ stage.Ended)) }
@@ -145,7 +135,7 @@ impl<'t> Scheduler<'t> {
             × (self.new ≡ self.old) × (shared.new ≡ shared.old)) }
         ensures fails { OnErr result (self.new.failed ≡ true) }
         ensures memory { OnErr result (self.old.failed ≡ false → PlansAt self.old.stage self.old
-            (S.shared shared.old) (S.caller shared.old)) }
+            (S.told shared.old)) }
         ensures failed { self.old.failed ≡ true → (result ≡ Err (record {}))
             × (self.new ≡ self.old) × (shared.new ≡ shared.old) }
     {

@@ -1,6 +1,6 @@
 -- What a call on what schedulers share asks for, and what it does.
-use Rattle.std.specs.Prelude.{◌≡◌, ◌≢◌, ℕ, List, [], ◌∷◌, ◌++◌, All, Option, None, Some, IfSome}
-use Rattle.std.specs.Prelude.{length}
+use Rattle.std.specs.Prelude.{◌≡◌, ◌≢◌, ℕ, Bool, List, [], ◌∷◌, ◌++◌, All, Option, None, Some}
+use Rattle.std.specs.Prelude.{IfSome, length}
 use Rattle.ea_machine.specs.Setup.{Setup}
 use Rattle.ea_machine.specs.Shared.{Shared}
 use Rattle.ea_machine.specs.Actor.{Actor}
@@ -16,6 +16,21 @@ pub record Caller : Type 0 where
   pub turns : List ℕ
   pub actor : Actor
   pub rest : ℕ
+
+-- what an object that schedulers share tells: how many share it, the greatest name of a block,
+-- whether carriers migrate, and, each where it is told, what is shared and the scheduler that calls
+pub record Told : Type 0 where
+  pub schedulers : ℕ
+  pub greatest : ℕ
+  pub migrates : Bool
+  pub shared : Option Shared
+  pub caller : Option Caller
+
+-- both tell the same of schedulers, names and migration
+pub record IsOfSame (x y : Told) : Type 0 where
+  pub schedulers : y.schedulers ≡ x.schedulers
+  pub greatest : y.greatest ≡ x.greatest
+  pub migrates : y.migrates ≡ x.migrates
 
 -- a scheduler after these turns of a run, as the caller of a row
 abbrev pub caller_of : Setup → ℕ → List ℕ → Caller
@@ -40,13 +55,14 @@ abbrev pub WantsRow : ℕ → Row → Caller → Type 0
 WantsRow me row x = (x.number ≡ me) × (wants x.actor ≡ row)
 
 -- where the caller is told, it is the scheduler with that number, and it wants the row
-abbrev pub IsWanted : ℕ → Row → Option Caller → Type 0
-IsWanted me row caller = IfSome caller (WantsRow me row)
+abbrev pub IsWanted : ℕ → Row → Told → Type 0
+IsWanted me row told = IfSome told.caller (WantsRow me row)
 
 -- the row was answered so, and had its effect on what is shared
-abbrev pub HasEffect : ℕ → Row → Answer → Option Shared → Shared → Type 0
-HasEffect me row got after before = (got ≡ answer me row before)
-    × (after ≡ Some (effect me row before))
+pub record HasEffect (me : ℕ) (row : Row) (got : Answer) (after : Option Shared) (before : Shared)
+    : Type 0 where
+  pub answered : got ≡ answer me row before
+  pub made : after ≡ Some (effect me row before)
 
 -- the caller took its step after these turns, of which it knew all but the last ones, which were
 -- turns of others: there what is shared is as it is told, and the row is answered so. Now it knows
@@ -61,9 +77,8 @@ pub record TookStep (me : ℕ) (row : Row) (got : Answer) (shared : Option Share
 
 -- the row was done, with this answer: on what is shared, where that is told, and by the caller,
 -- where that is told. What isn't told before a call isn't told after it
-pub record Did (me : ℕ) (row : Row) (got : Answer) (before after : Option Shared)
-    (old new : Option Caller) : Type 0 where
-  pub shared : IfSome before (HasEffect me row got after)
-  pub shared_untold : before ≡ None → after ≡ None
-  pub caller : IfSome old (TookStep me row got before new)
-  pub caller_untold : old ≡ None → new ≡ None
+pub record Did (me : ℕ) (row : Row) (got : Answer) (before after : Told) : Type 0 where
+  pub shared : IfSome before.shared (HasEffect me row got after.shared)
+  pub shared_untold : before.shared ≡ None → after.shared ≡ None
+  pub caller : IfSome before.caller (TookStep me row got before.shared after.caller)
+  pub caller_untold : before.caller ≡ None → after.caller ≡ None

@@ -41,7 +41,7 @@ use Rattle.ea_table.specs.declared.worker.Finished.{Finished}
 use Rattle.ea_table.specs.declared.worker.Worker.{Worker}
 use Rattle.ea_table.specs.declared.worker.Working.{Working}
 use Rattle.ea_table.specs.Ending.{Counts, IsCounted, IsEnd}
-use Rattle.ea_table.specs.Ruling.{acting, actor_in, caller_in}
+use Rattle.ea_table.specs.Ruling.{acting, actor_in, caller_in, told_in}
 use Rattle.ea_table.specs.Threads.{IsAtRest, IsDealt, IsFirst, IsFresh, IsOfRun}
 use Rattle.ea_table.specs.Working.{AtWork, IsThrough}
 use Rattle.ea_table.proofs.Rows.{moved}
@@ -60,21 +60,21 @@ texts-many n t given valid =
 
 module _ (c : Config) (t : Trace) (id : TableId) (i : ℕ) where
   pub first-ready : IsValidConfig c → IsValidTrace c.schedulers t → (w : Worker)
-      → IsFresh c t id i w → IsReady w.scheduler None (Some (caller_in w.pass.seat.me.0))
+      → IsFresh c t id i w → IsReady w.scheduler (told_in w.pass.seat.me.0)
   first-ready valid made w is =
       let s = is.scheduler in
       let a = actor_of w.scheduler in
       let v = w.pass.seat.me.0 in
-      let at : Ready c t i a None (Some (caller_in v)) = record {
+      let at : Ready c t i a (told_in v) = record {
         config = valid;
         trace = made;
         turns = [];
         actor = sym s.actor;
         shares = tt;
         calls = ap caller_in is.pass.view;
-        told = inr refl;
+        some = inr refl;
       } in
-      subst (λ (z : Config × (Trace × ℕ)). Ready z.0 z.1.0 z.1.1 a None (Some (caller_in v)))
+      subst (λ (z : Config × (Trace × ℕ)). Ready z.0 z.1.0 z.1.1 a (told_in v))
       (λ k. (sym s.config k, (sym s.trace k, sym s.number k))) at
 
   -- what the run of a worker says

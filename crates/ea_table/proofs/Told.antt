@@ -17,7 +17,7 @@ use Rattle.ea_table.specs.declared.views.Seated.{Seated}
 use Rattle.ea_table.specs.declared.views.View.{View}
 use Rattle.ea_table.specs.Ruling.{DidRow, IsSingle, Reads, ReadsHead, ReadsLink, ReadsName, Took}
 use Rattle.ea_table.specs.Ruling.{acting, actor_in, caller_in, claimed, move_since, older_after}
-use Rattle.ea_table.specs.Ruling.{setup_in, shared_since, stepped}
+use Rattle.ea_table.specs.Ruling.{setup_in, shared_since, stepped, told_in}
 use Rattle.ea_table.specs.Slots.{Move, Slot, act_of, claim_by, move_of}
 use Rattle.ea_table.specs.Words.{block_spot, mark_code}
 use Rattle.ea_table.proofs.Rows.{code-more}
@@ -135,7 +135,7 @@ run-after me row got v u d = (
 
 -- a row of a table that tells the caller
 pub caller-did : (me : ℕ) (row : Row) (got : Answer) (v u : View) → DidRow me row got v u
-    → Did me row got None None (Some (caller_in v)) (Some (caller_in u))
+    → Did me row got (told_in v) (told_in u)
 caller-did me row got v u d = record {
   shared = tt;
   shared_untold = λ q. refl;

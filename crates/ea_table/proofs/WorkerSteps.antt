@@ -28,39 +28,40 @@ use Rattle.ea_machine.specs.Stops.{count_of, less}
 use Rattle.ea_model.specs.Trace.{stop_in}
 use Rattle.ea_table.specs.declared.views.View.{View}
 use Rattle.ea_table.specs.Ending.{Counts, IsCounted}
-use Rattle.ea_table.specs.Ruling.{acting, caller_in}
+use Rattle.ea_table.specs.Ruling.{acting, caller_in, told_in}
 use Rattle.atomic_table.specs.Seated.{TableId}
 use Rattle.ea_table.specs.declared.pass.Pass.{Pass}
 use Rattle.ea_table.specs.declared.shared.TableShared.{TableShared}
 use Rattle.ea_table.specs.declared.worker.Worker.{Worker}
 use Rattle.ea_table.specs.Working.{AtWork}
 
-stepped-less : (c : Config) (t : Trace) (me : ℕ) (a b : Actor) (x y : Caller)
-    → Ready c t me a None (Some x) → a.stage ≢ Ended
-    → Stepped c t me 1 a b None None (Some x) (Some y)
-    → own_work c t b y.rest < own_work c t a x.rest
+stepped-less : (c : Config) (t : Trace) (me : ℕ) (a b : Actor) (x y : View)
+    → Ready c t me a (told_in x) → a.stage ≢ Ended → Stepped c t me 1 a b (told_in x) (told_in y)
+    → own_work c t b (caller_in y).rest < own_work c t a (caller_in x).rest
 stepped-less c t me a b x y h goes took =
     let e = setup_of c t in
     let w : State = run e took.turns in
     let v : State = step e w me in
     let goes' = subst (λ (d : Actor). d.stage ≢ Ended) (sym took.actor) goes in
-    let now = same-some (Some y) y (caller_of e me (took.turns ++ me ∷ [])) refl took.calls.1 in
+    let now = same-some (Some (caller_in y)) (caller_in y) (caller_of e me (took.turns ++ me ∷ []))
+    refl took.calls.1 in
     let less = own-less c t h.config h.trace w (took.turns, refl) me goes' in
     omega (
       arith,
       less,
-      ap (λ d. own_work c t d y.rest) took.is,
+      ap (λ d. own_work c t d (caller_in y).rest) took.is,
       ap (λ (z : Caller). own_work c t (v.actors me) z.rest) now,
       ap (λ (z : State). own_work c t (v.actors me) (length (z.shared.rests me)))
           (run-snoc e took.turns me),
-      ap (λ d. own_work c t d x.rest) took.actor,
-      ap (own_work c t (w.actors me)) (front-stands e me took.turns x took.calls.0).1,
+      ap (λ d. own_work c t d (caller_in x).rest) took.actor,
+      ap (own_work c t (w.actors me))
+          (front-stands e me took.turns (caller_in x) took.calls.0).1,
     )
 
 -- that many steps of a scheduler, beside which others step
-abbrev pub Steps : Scheduler → Scheduler → Caller → Caller → ℕ → Type 0
-Steps s t x y count = Stepped s.config s.trace.now s.number count (actor_of s) (actor_of t) None
-    None (Some x) (Some y)
+abbrev pub Steps : Scheduler → Scheduler → View → View → ℕ → Type 0
+Steps s t x y count = Stepped s.config s.trace.now s.number count (actor_of s) (actor_of t)
+    (told_in x) (told_in y)
 
 -- of up to one step that it takes, it takes one
 pub just-one : (P : ℕ → Type 0) (taken : ℕ) → taken ≤ 1 → 1 ≤ taken → P taken → P 1
@@ -68,17 +69,15 @@ just-one P taken few some = subst P (just taken few some) where
   just : (taken : ℕ) → taken ≤ 1 → 1 ≤ taken → taken ≡ 1
   just taken few some = omega (arith, few, some)
 
-pub step-less : (s t : Scheduler) (x y : Caller) → t.config ≡ s.config → t.trace ≡ s.trace
-    → IsReady s None (Some x) → (actor_of s).stage ≢ Ended
-    → Steps s t x y 1
-    → own_work t.config t.trace.now (actor_of t) y.rest
-    < own_work s.config s.trace.now (actor_of s) x.rest
+pub step-less : (s t : Scheduler) (x y : View) → t.config ≡ s.config → t.trace ≡ s.trace
+    → IsReady s (told_in x) → (actor_of s).stage ≢ Ended → Steps s t x y 1
+    → own_work t.config t.trace.now (actor_of t) (caller_in y).rest
+    < own_work s.config s.trace.now (actor_of s) (caller_in x).rest
 step-less s t x y config trace h goes took = omega (
   arith,
-  stepped-less s.config s.trace.now s.number (actor_of s) (actor_of t) x y h
-      goes took,
-  ap (λ c. own_work c t.trace.now (actor_of t) y.rest) config,
-  ap (λ (r : Bor Trace). own_work s.config r.now (actor_of t) y.rest) trace,
+  stepped-less s.config s.trace.now s.number (actor_of s) (actor_of t) x y h goes took,
+  ap (λ c. own_work c t.trace.now (actor_of t) (caller_in y).rest) config,
+  ap (λ (r : Bor Trace). own_work s.config r.now (actor_of t) (caller_in y).rest) trace,
 )
 
 -- it has taken one step more, and one less is left until its stop
@@ -114,8 +113,7 @@ count-one_more me turns since others = omega (
 
 pub step-counted : (s t : Scheduler) (v u : View) → t.config ≡ s.config → t.trace ≡ s.trace
     → t.number ≡ s.number → rests s ≡ false → t.left ≡ less s.left 1
-    → Steps s t (caller_in v) (caller_in u) 1
-    → IsCounted v s → IsCounted u t
+    → Steps s t v u 1 → IsCounted v s → IsCounted u t
 step-counted s t v u config trace number goes left took counted =
     let me = s.number in
     let now = same-some (Some (caller_in u)) (caller_in u)
@@ -135,8 +133,7 @@ step-counted s t v u config trace number goes left took counted =
     (one-less s.stop s.left (count_in (caller_in v)) counted (some-left s goes))))
 
 -- a step makes at most one entry in the log
-pub step-enters : (s t : Scheduler) (x y : Caller) → IsReady s None (Some x)
-    → Steps s t x y 1
+pub step-enters : (s t : Scheduler) (x y : View) → IsReady s (told_in x) → Steps s t x y 1
     → (length s.log.items ≤ length t.log.items) × (length t.log.items ≤ length s.log.items + 1)
 step-enters s t x y h took =
     by ((always-protocol s.config s.trace.now h.config h.trace).enters took.turns me me) where
@@ -173,7 +170,7 @@ pub sits : (id : TableId) (w : Worker) (x : TableShared) → x.pass ≡ w.pass
     → x.board.now.table.shared.table_id ≡ id
     → w.pass.seat.me.0.config ≡ w.scheduler.config
     → w.pass.seat.me.0.trace ≡ w.scheduler.trace.now
-    → IsReady w.scheduler None (Some (caller_in w.pass.seat.me.0))
+    → IsReady w.scheduler (told_in w.pass.seat.me.0)
     → IsCounted w.pass.seat.me.0 w.scheduler
     → AtWork w.scheduler.config w.scheduler.trace.now id w.scheduler.number
     (record { scheduler = w.scheduler; shared = x })
@@ -185,7 +182,6 @@ sits id w x pass table config trace ready counted = record {
   known_config = ap (λ (p : Pass). p.seat.me.0.config) pass ∙ config;
   known_trace = ap (λ (p : Pass). p.seat.me.0.trace) pass ∙ trace;
   ready = λ going.
-      subst (λ (p : Pass). IsReady w.scheduler None (Some (caller_in p.seat.me.0))) (sym pass)
-      ready;
+      subst (λ (p : Pass). IsReady w.scheduler (told_in p.seat.me.0)) (sym pass) ready;
   counted = λ going. subst (λ (p : Pass). IsCounted p.seat.me.0 w.scheduler) (sym pass) counted;
 }

@@ -1,7 +1,7 @@
 -- The rule of the table: its words are the coding of what is shared after a list of steps, its
 -- slots have the contents that are at home, and each seat knows its scheduler as that stands then.
 use Rattle.std.specs.Prelude.{◌≡◌, ◌≢◌, ℕ, ◌≤◌, true, false, ◌==◌, if◌then◌else◌}
-use Rattle.std.specs.Prelude.{List, [], ◌∷◌, ◌++◌, All, map, Option, None, IfSome}
+use Rattle.std.specs.Prelude.{List, [], ◌∷◌, ◌++◌, All, map, Option, None, Some, IfSome}
 use Rattle.std.specs.List.{range_with_len}
 use mathlib.Core.Option.{some}
 use lib.ListN.{get_elem?}
@@ -30,11 +30,11 @@ use Rattle.ea_machine.specs.Owners.{CarrierAt, word_of}
 use Rattle.ea_machine.specs.Rows.{Answer, Row, TakeAll, TakeLink, Look, Push}
 use Rattle.ea_machine.specs.Rows.{Link, BusyTry, Settle, Abandon, FetchTry}
 use Rattle.ea_machine.specs.Rows.{Create, SendHome, Clear, Give, TakeTry, Nothing}
-use Rattle.ea_machine.specs.Setup.{Setup, setup_of}
+use Rattle.ea_machine.specs.Setup.{Setup, migration, setup_of}
 use Rattle.ea_machine.specs.Shared.{Shared}
 use Rattle.ea_machine.specs.State.{State}
 use Rattle.ea_machine.specs.Table.{answer}
-use Rattle.ea_shared.specs.Calls.{Caller, caller_of}
+use Rattle.ea_shared.specs.Calls.{Caller, Told, caller_of}
 use Rattle.ea_sound.specs.Standing.{IsOlderAt}
 use Rattle.ea_word.specs.declared.words.TheConstants.{NO_NODE, OLDEST}
 use Rattle.ea_word.specs.Codes.{IsCodable, IsShown, head_code, link_code}
@@ -131,6 +131,16 @@ actor_in v = (run (setup_in v) (acting v).turns).actors (acting v).number
 
 abbrev pub caller_in : View → Caller
 caller_in v = caller_of (setup_in v) (acting v).number (acting v).turns
+
+-- what it tells of that run: its scheduler as the caller
+abbrev pub told_in : View → Told
+told_in v = record {
+  schedulers = v.config.schedulers;
+  greatest = v.trace.greatest;
+  migrates = migration (setup_in v);
+  shared = None;
+  caller = Some (caller_in v);
+}
 
 -- the link word of a pushed node, by the word that was found at the head
 abbrev pub older_word : ℕ → ℕ

@@ -8,7 +8,7 @@ use Rattle.ea_sched.specs.Acting.{actor_of, rests}
 use Rattle.ea_sched.specs.Steps.{IsReady}
 use Rattle.ea_table.specs.declared.worker.Working.{Working}
 use Rattle.ea_table.specs.Ending.{IsCounted}
-use Rattle.ea_table.specs.Ruling.{caller_in}
+use Rattle.ea_table.specs.Ruling.{caller_in, told_in}
 
 -- scheduler i of the run is at work at that table. Unless it had no memory, it stands so in a state
 -- of the run, its pass knows it as it stands there, and the steps left to it are counted
@@ -20,7 +20,7 @@ pub record AtWork (c : Config) (t : Trace) (id : TableId) (i : ℕ) (w : Working
   pub known_config : w.shared.pass.seat.me.0.config ≡ c
   pub known_trace : w.shared.pass.seat.me.0.trace ≡ t
   pub ready : w.scheduler.failed ≡ false
-      → IsReady w.scheduler None (Some (caller_in w.shared.pass.seat.me.0))
+      → IsReady w.scheduler (told_in w.shared.pass.seat.me.0)
   pub counted : w.scheduler.failed ≡ false → IsCounted w.shared.pass.seat.me.0 w.scheduler
 
 -- it is, in some run and at some table

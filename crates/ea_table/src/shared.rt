@@ -38,22 +38,14 @@ impl<'a, 't> TableShared<'a, 't> {
 }
 
 impl<'a, 't> Shared for TableShared<'a, 't> {
-    ghost use Rattle.std.specs.Prelude.{◌≡◌, Some, None};
+    ghost use Rattle.std.specs.Prelude.{◌≡◌};
     ghost use Rattle.std.proofs.Common.{refl, ap, ◌∙◌};
     ghost use Rattle.ea_machine.specs.Setup.{migration, setup_of};
-    ghost use Rattle.ea_table.specs.Ruling.{caller_in, setup_in};
+    ghost use Rattle.ea_table.specs.Ruling.{told_in};
 
     type Content = Mbc;
 
-    ghost schedulers = { λ t. t.pass.seat.me.0.config.schedulers };
-
-    ghost greatest = { λ t. t.pass.seat.me.0.trace.greatest };
-
-    ghost migrates = { λ t. migration (setup_in t.pass.seat.me.0) };
-
-    ghost shared = { λ _. None };
-
-    ghost caller = { λ t. Some (caller_in t.pass.seat.me.0) };
+    ghost told = { λ t. told_in t.pass.seat.me.0 };
 
     ghost stays = { λ x y. (y.board.now.table.shared.table_id ≡ x.board.now.table.shared.table_id)
         × (y.pass.seat.me.0.config ≡ x.pass.seat.me.0.config)
@@ -61,13 +53,12 @@ impl<'a, 't> Shared for TableShared<'a, 't> {
 
     ghost stays_so = { λ _. (refl, refl, refl) };
 
-    ghost stays_shared = { λ x y h. ap (λ c. c.schedulers) h.1 };
-
-    ghost stays_greatest = { λ x y h. ap (λ t. t.greatest) h.2 };
-
-    ghost stays_migrates = { λ x y h.
-        ap (λ c. migration (setup_of c y.pass.seat.me.0.trace)) h.1
-        ∙ ap (λ t. migration (setup_of x.pass.seat.me.0.config t)) h.2 };
+    ghost stays_told = { λ x y h. record {
+      schedulers = ap (λ c. c.schedulers) h.1;
+      greatest = ap (λ t. t.greatest) h.2;
+      migrates = ap (λ c. migration (setup_of c y.pass.seat.me.0.trace)) h.1
+          ∙ ap (λ t. migration (setup_of x.pass.seat.me.0.config t)) h.2;
+    } };
 
     fn take_all(&mut self, me: u32) -> Option<Node> {
         self.pass.take_all(self.board, me)

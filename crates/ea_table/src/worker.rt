@@ -6,7 +6,7 @@ ghost use Rattle.ea_model.specs.Trace.{IsValidTrace};
 ghost use Rattle.ea_sched.specs.Acting.{actor_of, rests};
 ghost use Rattle.ea_sched.specs.Steps.{IsReady};
 ghost use Rattle.ea_table.specs.Ending.{IsCounted};
-ghost use Rattle.ea_table.specs.Ruling.{acting, actor_in, caller_in};
+ghost use Rattle.ea_table.specs.Ruling.{acting, actor_in, told_in};
 ghost use Rattle.ea_table.specs.Seating.{IsSeatedAt};
 ghost use Rattle.ea_table.specs.Threads.{IsAtRest, IsFresh};
 ghost use Rattle.ea_table.specs.Working.{AtWork, IsAtWork, IsThrough, WorksOn, entries, work_left};
@@ -70,7 +70,7 @@ impl<'t> Worker<'t> {
         requires config { self.pass.seat.me.0.config ≡ self.scheduler.config }
         requires trace { self.pass.seat.me.0.trace ≡ self.scheduler.trace.now }
         requires going { self.scheduler.failed ≡ false }
-        requires ready { IsReady self.scheduler None (Some (caller_in self.pass.seat.me.0)) }
+        requires ready { IsReady self.scheduler (told_in self.pass.seat.me.0) }
         requires counted { IsCounted self.pass.seat.me.0 self.scheduler }
         ensures seated { result.pass.seat.table_id ≡ board.now.table.shared.table_id }
         ensures same { (result.scheduler.number ≡ self.entry.scheduler.number)

@@ -9,4 +9,4 @@ pub give-requires-clause-fresh : goal.give-requires-clause-fresh
 unfolding effect
 give-requires-clause-fresh g c =
     subst (λ (s : Shared). spot_named 3 s.given ≡ None)
-    (sym (after-row c.in_ok-shared.ensures.nothing c.take_try.ensures.row)) refl
+    (sym (after-row c.in_ok-shared.ensures.nothing c.take_try.ensures.row.shared)) refl

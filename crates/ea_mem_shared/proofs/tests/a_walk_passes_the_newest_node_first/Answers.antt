@@ -41,62 +41,62 @@ take_all-requires-clause-walked g c =
 pub push-requires-clause-nowhere : goal.push-requires-clause-nowhere
 push-requires-clause-nowhere g c =
     subst (HasNoAlike older)
-    (sym (after-row c.in_ok-shared.ensures.nothing c.take_all.ensures.row))
+    (sym (after-row c.in_ok-shared.ensures.nothing c.take_all.ensures.row.shared))
     (none-there older before_first none-first)
 
 pub link-requires-clause-unlinked : goal.link-requires-clause-unlinked
 unfolding effect
 link-requires-clause-unlinked g c =
-    let d = after-row c.in_ok-shared.ensures.nothing c.take_all.ensures.row in
+    let d = after-row c.in_ok-shared.ensures.nothing c.take_all.ensures.row.shared in
     subst (IsUnlinkedAt older 1)
-    (sym (after-row d c.push.ensures.row)) (inl (0, omega arith, refl))
+    (sym (after-row d c.push.ensures.row.shared)) (inl (0, omega arith, refl))
 
 pub push-requires-2-clause-nowhere : goal.push-requires-2-clause-nowhere
 push-requires-2-clause-nowhere g c =
-    let d = after-row c.in_ok-shared.ensures.nothing c.take_all.ensures.row in
-    let e = after-row d c.push.ensures.row in
+    let d = after-row c.in_ok-shared.ensures.nothing c.take_all.ensures.row.shared in
+    let e = after-row d c.push.ensures.row.shared in
     subst (HasNoAlike newer)
-    (sym (after-row e c.link.ensures.row))
+    (sym (after-row e c.link.ensures.row.shared))
     (none-there newer before_second none-second)
 
 pub link-requires-2-clause-unlinked : goal.link-requires-2-clause-unlinked
 unfolding effect
 link-requires-2-clause-unlinked g c =
-    let d = after-row c.in_ok-shared.ensures.nothing c.take_all.ensures.row in
-    let e = after-row d c.push.ensures.row in
-    let h = after-row e c.link.ensures.row in
+    let d = after-row c.in_ok-shared.ensures.nothing c.take_all.ensures.row.shared in
+    let e = after-row d c.push.ensures.row.shared in
+    let h = after-row e c.link.ensures.row.shared in
     subst (IsUnlinkedAt newer 1)
-    (sym (after-row h c.push-2.ensures.row)) (inl (0, omega arith, refl))
+    (sym (after-row h c.push-2.ensures.row.shared)) (inl (0, omega arith, refl))
 
 pub take_all-requires-2-clause-walked : goal.take_all-requires-2-clause-walked
 unfolding effect
 take_all-requires-2-clause-walked g c =
-    let d = after-row c.in_ok-shared.ensures.nothing c.take_all.ensures.row in
-    let e = after-row d c.push.ensures.row in
-    let h = after-row e c.link.ensures.row in
-    let i = after-row h c.push-2.ensures.row in
+    let d = after-row c.in_ok-shared.ensures.nothing c.take_all.ensures.row.shared in
+    let e = after-row d c.push.ensures.row.shared in
+    let h = after-row e c.link.ensures.row.shared in
+    let i = after-row h c.push-2.ensures.row.shared in
     subst (λ (s : Shared). s.rests 1 ≡ [])
-    (sym (after-row i c.link-2.ensures.row)) refl
+    (sym (after-row i c.link-2.ensures.row.shared)) refl
 
 pub take_link-requires-clause-next : goal.take_link-requires-clause-next
 unfolding effect
 take_link-requires-clause-next g c =
-    let d = after-row c.in_ok-shared.ensures.nothing c.take_all.ensures.row in
-    let e = after-row d c.push.ensures.row in
-    let h = after-row e c.link.ensures.row in
-    let i = after-row h c.push-2.ensures.row in
-    let j = after-row i c.link-2.ensures.row in
+    let d = after-row c.in_ok-shared.ensures.nothing c.take_all.ensures.row.shared in
+    let e = after-row d c.push.ensures.row.shared in
+    let h = after-row e c.link.ensures.row.shared in
+    let i = after-row h c.push-2.ensures.row.shared in
+    let j = after-row i c.link-2.ensures.row.shared in
     subst (λ (s : Shared). first_node (s.rests 1) ≡ Some newer)
-    (sym (after-row j c.take_all-2.ensures.row)) refl
+    (sym (after-row j c.take_all-2.ensures.row.shared)) refl
 
 pub take_link-requires-2-clause-next : goal.take_link-requires-2-clause-next
 unfolding effect
 take_link-requires-2-clause-next g c =
-    let d = after-row c.in_ok-shared.ensures.nothing c.take_all.ensures.row in
-    let e = after-row d c.push.ensures.row in
-    let h = after-row e c.link.ensures.row in
-    let i = after-row h c.push-2.ensures.row in
-    let j = after-row i c.link-2.ensures.row in
-    let k = after-row j c.take_all-2.ensures.row in
+    let d = after-row c.in_ok-shared.ensures.nothing c.take_all.ensures.row.shared in
+    let e = after-row d c.push.ensures.row.shared in
+    let h = after-row e c.link.ensures.row.shared in
+    let i = after-row h c.push-2.ensures.row.shared in
+    let j = after-row i c.link-2.ensures.row.shared in
+    let k = after-row j c.take_all-2.ensures.row.shared in
     subst (λ (s : Shared). first_node (s.rests 1) ≡ Some older)
-    (sym (after-row k c.take_link.ensures.row)) refl
+    (sym (after-row k c.take_link.ensures.row.shared)) refl

@@ -21,38 +21,38 @@ pub take_all-requires-clause-walked : goal.take_all-requires-clause-walked
 unfolding effect
 take_all-requires-clause-walked g c =
     subst (λ (s : Shared). s.rests 2 ≡ [])
-    (sym (after-row c.in_ok-shared.ensures.nothing c.push.ensures.row)) refl
+    (sym (after-row c.in_ok-shared.ensures.nothing c.push.ensures.row.shared)) refl
 
 pub take_link-requires-clause-next : goal.take_link-requires-clause-next
 unfolding effect
 take_link-requires-clause-next g c =
-    let d = after-row c.in_ok-shared.ensures.nothing c.push.ensures.row in
+    let d = after-row c.in_ok-shared.ensures.nothing c.push.ensures.row.shared in
     subst (λ (s : Shared). first_node (s.rests 2) ≡ Some older)
-    (sym (after-row d c.take_all.ensures.row)) refl
+    (sym (after-row d c.take_all.ensures.row.shared)) refl
 
 pub link-requires-clause-unlinked : goal.link-requires-clause-unlinked
 unfolding effect
 link-requires-clause-unlinked g c =
-    let d = after-row c.in_ok-shared.ensures.nothing c.push.ensures.row in
-    let e = after-row d c.take_all.ensures.row in
+    let d = after-row c.in_ok-shared.ensures.nothing c.push.ensures.row.shared in
+    let e = after-row d c.take_all.ensures.row.shared in
     subst (IsUnlinkedAt older 2)
-    (sym (after-row e c.take_link.ensures.row)) (inr (0, omega arith, refl))
+    (sym (after-row e c.take_link.ensures.row.shared)) (inr (0, omega arith, refl))
 
 pub take_link-requires-2-clause-next : goal.take_link-requires-2-clause-next
 unfolding effect
 take_link-requires-2-clause-next g c =
-    let d = after-row c.in_ok-shared.ensures.nothing c.push.ensures.row in
-    let e = after-row d c.take_all.ensures.row in
-    let h = after-row e c.take_link.ensures.row in
+    let d = after-row c.in_ok-shared.ensures.nothing c.push.ensures.row.shared in
+    let e = after-row d c.take_all.ensures.row.shared in
+    let h = after-row e c.take_link.ensures.row.shared in
     subst (λ (s : Shared). first_node (s.rests 2) ≡ Some older)
-    (sym (after-row h c.link.ensures.row)) refl
+    (sym (after-row h c.link.ensures.row.shared)) refl
 
 pub take_all-requires-2-clause-walked : goal.take_all-requires-2-clause-walked
 unfolding effect
 take_all-requires-2-clause-walked g c =
-    let d = after-row c.in_ok-shared.ensures.nothing c.push.ensures.row in
-    let e = after-row d c.take_all.ensures.row in
-    let h = after-row e c.take_link.ensures.row in
-    let i = after-row h c.link.ensures.row in
+    let d = after-row c.in_ok-shared.ensures.nothing c.push.ensures.row.shared in
+    let e = after-row d c.take_all.ensures.row.shared in
+    let h = after-row e c.take_link.ensures.row.shared in
+    let i = after-row h c.link.ensures.row.shared in
     subst (λ (s : Shared). s.rests 2 ≡ [])
-    (sym (after-row i c.take_link-2.ensures.row)) refl
+    (sym (after-row i c.take_link-2.ensures.row.shared)) refl

@@ -1,46 +1,34 @@
-use Rattle.std.proofs.Common.{◌≡◌, refl, sym, ap, ◌∙◌, subst}
-use Rattle.std.specs.Prelude.{IfSome}
-use Rattle.ea_model.specs.Instance.{owner_of}
-use Rattle.ea_model.specs.Content.{Content, gaps_of, largest}
+use Rattle.std.proofs.Common.{ap, ◌∙◌, subst}
 use Rattle.ea_machine.specs.Rows.{Abandon, Done}
 use Rattle.ea_machine.specs.Releases.{abandoned, ends}
-use Rattle.ea_machine.specs.Owners.{Employed}
 use Rattle.ea_shared.specs.Calls.{Did}
 use Rattle.ea_sched.specs.Acting.{standing_at}
 use Rattle.ea_sched.proofs.CarrierCalling.{abandon-carrier, abandon-employed, abandon-for}
 use Rattle.ea_sched.proofs.CarrierCalling.{abandon-many, abandon-room}
-use Rattle.ea_sched.proofs.InHand.{as-carrier, as-for}
 use Rattle.ea_sched.proofs.StandsOn.{moves-on}
 use Rattle.ea_sched.proofs.state.Scheduler.abandon.Goals as goal
 
 pub into_multi-carrier-requires : goal.into_multi-carrier-requires
-into_multi-carrier-requires g c = abandon-many c.args.self.now c.requires.starts.row.ready c.requires.starts.why
-    c.args.gone
-    c.args.content refl
+into_multi-carrier-requires g c = abandon-many c.args.self.now c.requires.starts.row
+
+pub abandon-requires-clause-migrates : goal.abandon-requires-clause-migrates
+abandon-requires-clause-migrates g c = moves-on c.args.self.now c.requires.starts.row (λ off. off)
 
 pub abandon-requires-clause-carrier : goal.abandon-requires-clause-carrier
-abandon-requires-clause-carrier g c = as-carrier c.number-number.ensures
-    c.requires.starts.row.schedulers
-    (abandon-carrier c.args.self.now c.requires.starts.row.ready c.requires.starts.why c.args.gone c.args.content
-    refl)
+abandon-requires-clause-carrier g c =
+    abandon-carrier c.args.self.now c.requires.starts.row c.number-number.ensures
 
 pub abandon-requires-clause-employed : goal.abandon-requires-clause-employed
 abandon-requires-clause-employed g c =
-    subst (λ n. IfSome (g.S.Shared.shared c.args.shared.now)
-    (λ s. s.places n ≡ Employed c.args.self.now.number)) (sym c.number-number.ensures)
-    (abandon-employed c.args.self.now c.requires.starts.row.ready c.requires.starts.why c.args.gone
-    c.args.content refl)
+    abandon-employed c.args.self.now c.requires.starts.row c.number-number.ensures
 
 pub abandon-requires-clause-content : goal.abandon-requires-clause-content
-abandon-requires-clause-content g c = as-for c.number-number.ensures c.into_multi-carrier.ensures
-    (abandon-for c.args.self.now c.requires.starts.row.ready c.requires.starts.why c.args.gone c.args.content refl
-    c.largest-largest.result (c.largest-largest.ensures
-    ∙ ap (λ (y : Content). largest (gaps_of y)) c.into_multi-carrier.ensures))
+abandon-requires-clause-content g c = abandon-for c.args.self.now c.requires.starts.row
+    c.number-number.ensures c.into_multi-carrier.ensures c.largest-largest.ensures
 
 pub list_abandoned-requires : goal.list_abandoned-requires
 list_abandoned-requires g c = record {
-  room = λ own. abandon-room c.args.self.now c.requires.starts.row.ready c.requires.starts.why c.args.gone
-      c.args.content refl (ap owner_of (sym c.number-number.ensures) ∙ own);
+  room = abandon-room c.args.self.now c.requires.starts.row c.number-number.ensures;
 }
 
 pub returns-clause-row : goal.returns-clause-row
@@ -48,13 +36,9 @@ returns-clause-row g c =
     let s = c.args.self.now in
     record {
       got = Done;
-      did = subst (λ y. Did s.number (Abandon y) Done (g.S.Shared.shared c.args.shared.now)
-          (g.S.Shared.shared c.abandon.new.self) (g.S.Shared.caller c.args.shared.now)
-          (g.S.Shared.caller c.abandon.new.self)) c.into_multi-carrier.ensures
+      did = subst (λ y. Did s.number (Abandon y) Done (g.S.Shared.told c.args.shared.now)
+          (g.S.Shared.told c.abandon.new.self)) c.into_multi-carrier.ensures
           c.abandon.ensures.row;
       is = λ at. ap (ends c.args.gone) (c.list_abandoned.ensures.listed at
           ∙ ap (λ n. abandoned s.number n (standing_at at s)) c.number-number.ensures);
     }
-
-pub abandon-requires-clause-migrates : goal.abandon-requires-clause-migrates
-abandon-requires-clause-migrates g c = moves-on c.args.self.now c.requires.starts.row (λ off. off)

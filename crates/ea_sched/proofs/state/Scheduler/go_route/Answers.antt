@@ -1,5 +1,6 @@
 use Rattle.std.proofs.lemmas.Result.{on_err_weaker, on_ok_weaker}
-use Rattle.ea_sched.proofs.Carrying.{task-more, turned-counts, turned-done, turned-plans, works-over}
+use Rattle.ea_sched.proofs.Carrying.{task-more, turned-counts, turned-done, turned-plans}
+use Rattle.ea_sched.proofs.Carrying.{works-over}
 use Rattle.ea_sched.proofs.state.Scheduler.go_route.Goals as goal
 
 pub route_row-turned-requires : goal.route_row-turned-requires

@@ -4,18 +4,13 @@ use Rattle.ea_sched.proofs.state.Scheduler.link.Goals as goal
 
 pub link-requires-clause-target : goal.link-requires-clause-target
 link-requires-clause-target g c =
-    let target = link-target c.args.self.now c.requires.starts.row.ready c.args.node c.args.to
-    c.requires.starts.why
-    c.args.gone refl in
-    omega (arith, target, c.requires.starts.row.schedulers)
+    let h = c.requires.starts.row in
+    omega (arith, link-target c.args.self.now h.ready refl, h.schedulers)
 
 pub link-requires-clause-node : goal.link-requires-clause-node
-link-requires-clause-node g c = as-node c.args.node c.requires.starts.row.schedulers
-    c.requires.starts.row.greatest
-    (link-node c.args.self.now c.requires.starts.row.ready c.args.node c.args.to c.requires.starts.why c.args.gone
-    refl)
+link-requires-clause-node g c =
+    let h = c.requires.starts.row in
+    as-node c.args.node h.schedulers h.greatest (link-node c.args.self.now h.ready refl)
 
 pub link-requires-clause-unlinked : goal.link-requires-clause-unlinked
-link-requires-clause-unlinked g c = link-unlinked c.args.self.now c.requires.starts.row.ready
-    c.args.node
-    c.args.to c.requires.starts.why c.args.gone refl
+link-requires-clause-unlinked g c = link-unlinked c.args.self.now c.requires.starts.row.ready refl

@@ -1,7 +1,4 @@
-use Rattle.std.proofs.Common.{◌*◌, refl, ap, subst, arith}
-use Rattle.ea_model.specs.declared.units.TheConstants.{NUMBERS}
-use Rattle.ea_machine.specs.Rows.{Look, Saw}
-use Rattle.ea_shared.specs.Calls.{Did}
+use Rattle.ea_machine.specs.Rows.{Saw}
 use Rattle.ea_sched.proofs.CarrierCalling.{look-carrier, own-settings, saw-block}
 use Rattle.ea_sched.proofs.StandsOn.{moves-on, stands-on}
 use Rattle.ea_sched.proofs.state.Scheduler.look.Goals as goal
@@ -11,18 +8,11 @@ look-seen-requires-clause-migrates g c =
     moves-on c.args.self.now c.requires.starts.row (λ off. off)
 
 pub look-seen-requires-clause-carrier : goal.look-seen-requires-clause-carrier
-look-seen-requires-clause-carrier g c =
-    let is = look-carrier c.args.self.now c.requires.starts.row.ready c.requires.starts.why c.args.gone
-    c.args.hand refl in
-    (is.0, omega (arith, is.1, ap (λ n. NUMBERS * n) c.requires.starts.row.schedulers))
+look-seen-requires-clause-carrier g c = look-carrier c.args.self.now c.requires.starts.row
 
 pub looked-requires-clause-block : goal.looked-requires-clause-block
-looked-requires-clause-block g c = λ mine.
-    saw-block c.args.self.now c.requires.starts.row.ready c.requires.starts.why c.args.gone c.args.hand refl
-    (subst (λ v. Did c.args.self.now.number (Look c.args.hand.spot.carrier) (Saw v)
-    (g.S.Shared.shared c.args.shared.now) (g.S.Shared.shared c.look-seen.new.self)
-    (g.S.Shared.caller c.args.shared.now) (g.S.Shared.caller c.look-seen.new.self)) mine
-    c.look-seen.ensures.row)
+looked-requires-clause-block g c =
+    saw-block c.args.self.now c.requires.starts.row c.look-seen.result c.look-seen.ensures.row
 
 pub looked-requires-clause-settings : goal.looked-requires-clause-settings
 looked-requires-clause-settings g c = own-settings c.args.self.now c.requires.starts.row.ready

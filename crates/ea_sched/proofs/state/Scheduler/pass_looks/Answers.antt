@@ -31,7 +31,7 @@ returns-clause-step g c = λ some.
     looks-stepped c.args.self.now c.in-Searching.ask c.in-Searching.at c.in-Pool.left
     c.in-Pool.looked is c.last_counted-last.result c.min-passed.result some
     (omega (arith, clamps, some, few)) (omega (arith, clamps, some, fewer, few))
-    (omega (arith, clamps, some, few, c.max.ensures)) _ _ c.requires.starts.ready
+    (omega (arith, clamps, some, few, c.max.ensures)) _ c.requires.starts.ready
     c.last_counted-last.ensures.uncounted c.last_counted-last.ensures.beside
 
 pub returns-clause-left : goal.returns-clause-left

@@ -12,23 +12,23 @@ use Rattle.ea_sched.proofs.Seeking.{search-on}
 use Rattle.ea_sched.proofs.state.Scheduler.see.Goals as goal
 
 pub saw-requires-clause-next : goal.saw-requires-clause-next
-saw-requires-clause-next c = search-next c.args.self.now c.requires.reached.2
+saw-requires-clause-next c = search-next c.args.self.now c.requires.reached.1
     c.in-Searching.ask c.in-Searching.at c.in-Searching.part c.in-Searching.is
 
 pub saw-requires-clause-before : goal.saw-requires-clause-before
-saw-requires-clause-before c = search-before c.args.self.now c.requires.reached.2
+saw-requires-clause-before c = search-before c.args.self.now c.requires.reached.1
     c.in-Searching.ask c.in-Searching.at c.in-Searching.part c.in-Searching.is
 
 pub end_search-requires-clause-more : goal.end_search-requires-clause-more
-end_search-requires-clause-more c = search-more c.args.self.now c.requires.reached.2
+end_search-requires-clause-more c = search-more c.args.self.now c.requires.reached.1
     c.in-Searching.ask c.in-Searching.at c.in-Searching.part c.in-Searching.is
 
 pub end_search-requires-clause-asked : goal.end_search-requires-clause-asked
-end_search-requires-clause-asked c = search-asked c.args.self.now c.requires.reached.2
+end_search-requires-clause-asked c = search-asked c.args.self.now c.requires.reached.1
     c.in-Searching.ask c.in-Searching.at c.in-Searching.part c.in-Searching.is _ refl refl
 
 pub end_search-requires-clause-counts : goal.end_search-requires-clause-counts
-end_search-requires-clause-counts c = ready-counts c.args.self.now c.requires.reached.2
+end_search-requires-clause-counts c = ready-counts c.args.self.now c.requires.reached.1
 
 pub returns-in-Try-clause-actor : goal.returns-in-Try-clause-actor
 returns-in-Try-clause-actor c =
@@ -36,7 +36,7 @@ returns-in-Try-clause-actor c =
     let ask = c.in-Searching.ask in
     let at = c.in-Searching.at in
     let part = c.in-Searching.part in
-    let on = search-on s c.requires.reached.2 ask at part c.in-Searching.is in
+    let on = search-on s c.requires.reached.1 ask at part c.in-Searching.is in
     looked-try s on ask at part c.in-Searching.is c.args.seen c.greatest-highest.result
     (standing c.saw.new.self c.saw.new.lists.lists) c.saw.ensures.stands
     (c.saw.ensures.verdict.0 c.in-Try.is)
@@ -47,7 +47,7 @@ returns-in-Some-clause-actor c =
     let ask = c.in-Searching.ask in
     let at = c.in-Searching.at in
     let part = c.in-Searching.part in
-    let on = search-on s c.requires.reached.2 ask at part c.in-Searching.is in
+    let on = search-on s c.requires.reached.1 ask at part c.in-Searching.is in
     let x = standing c.saw.new.self c.saw.new.lists.lists in
     next-searches (setup_for s) s.number ask x (ready_of s) c.in-Some.number
     (sym c.next_look.ensures ∙ c.in-Some.is)
@@ -61,7 +61,7 @@ returns-in-None-clause-actor c =
     let ask = c.in-Searching.ask in
     let at = c.in-Searching.at in
     let part = c.in-Searching.part in
-    let on = search-on s c.requires.reached.2 ask at part c.in-Searching.is in
+    let on = search-on s c.requires.reached.1 ask at part c.in-Searching.is in
     let x = standing c.saw.new.self c.saw.new.lists.lists in
     made-as c.end_search.result _ c.end_search.ensures.actor
     (ap (λ n. new_carrier (setup_for s) s.number ask n
@@ -78,7 +78,7 @@ returns-in-None-clause-memory c =
     let ask = c.in-Searching.ask in
     let at = c.in-Searching.at in
     let part = c.in-Searching.part in
-    let on = search-on s c.requires.reached.2 ask at part c.in-Searching.is in
+    let on = search-on s c.requires.reached.1 ask at part c.in-Searching.is in
     let x = standing c.saw.new.self c.saw.new.lists.lists in
     plans-as c.end_search.result s c.end_search.ensures.memory
     (ap (λ n. new_carrier (setup_for s) s.number ask n

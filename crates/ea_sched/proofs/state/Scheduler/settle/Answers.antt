@@ -1,28 +1,25 @@
-use Rattle.std.proofs.Common.{◌≡◌, true, false, refl, sym, ap, ◌∙◌, subst}
-use Rattle.std.specs.Prelude.{IfSome}
-use Rattle.ea_model.specs.Content.{Content, gaps_of, is_nil, largest}
-use Rattle.ea_machine.specs.Owners.{Busy}
+use Rattle.std.proofs.Common.{◌≡◌, true, false, sym, ap, ◌∙◌}
+use Rattle.ea_model.specs.Content.{is_nil}
 use Rattle.ea_machine.specs.Releases.{leaving, settled, struck}
 use Rattle.ea_search.specs.Rooms.{RoomyLists}
 use Rattle.ea_machine.specs.Rows.{Done}
 use Rattle.ea_sched.specs.Acting.{setup_for, standing_at}
-use Rattle.ea_sched.proofs.CarrierCalling.{listed-once}
-use Rattle.ea_sched.proofs.CarrierCalling.{settle-busy, settle-carrier, settle-for, settle-many}
-use Rattle.ea_sched.proofs.InHand.{as-carrier, as-for, settle-wanted}
+use Rattle.ea_sched.proofs.CarrierCalling.{listed-once, settle-busy, settle-carrier, settle-for}
+use Rattle.ea_sched.proofs.CarrierCalling.{settle-many, settle-wanted}
 use Rattle.ea_sched.proofs.StandsOn.{moves-on, stands-on}
 use Rattle.ea_sched.proofs.state.Scheduler.settle.Goals as goal
 
+pub settle_employed-requires-clause-migrates : goal.settle_employed-requires-clause-migrates
+settle_employed-requires-clause-migrates g c =
+    moves-on c.args.self.now c.requires.starts.row (λ off. off)
+
 pub settle_employed-requires-clause-carrier : goal.settle_employed-requires-clause-carrier
-settle_employed-requires-clause-carrier g c = as-carrier c.number-number.ensures
-    c.requires.starts.row.schedulers
-    (settle-carrier c.args.self.now c.requires.starts.row.ready c.requires.starts.why c.args.gone c.args.content
-    refl)
+settle_employed-requires-clause-carrier g c =
+    settle-carrier c.args.self.now c.requires.starts.row c.number-number.ensures
 
 pub settle_employed-requires-clause-busy : goal.settle_employed-requires-clause-busy
 settle_employed-requires-clause-busy g c =
-    subst (λ n. IfSome (g.S.Shared.shared c.args.shared.now)
-    (λ s. s.places n ≡ Busy c.args.self.now.number)) (sym c.number-number.ensures)
-    (settle-busy c.args.self.now c.requires.starts.row.ready c.requires.starts.why c.args.gone c.args.content refl)
+    settle-busy c.args.self.now c.requires.starts.row c.number-number.ensures
 
 pub remove-requires : goal.remove-requires
 remove-requires g c = record {
@@ -41,7 +38,7 @@ returns-then-is_empty-clause-row g c =
       got = Done;
       did = c.settle_employed.ensures.row x
           (record { number = sym c.number-number.ensures; empty = empty })
-          (settle-wanted s c.requires.starts.row.ready c.requires.starts.why c.args.gone x refl);
+          (settle-wanted s c.requires.starts.row);
       is = λ at. c.leave.ensures (record (standing_at at s) { lists = c.remove.new.self.lists })
           ∙ ap (λ (l : RoomyLists). leaving (setup_for s) s.number x c.args.gone
           (record (standing_at at s) { lists = l.lists })) c.remove.ensures.lists
@@ -52,33 +49,22 @@ returns-then-is_empty-clause-row g c =
     }
 
 pub into_multi-carrier-requires : goal.into_multi-carrier-requires
-into_multi-carrier-requires g c = settle-many c.args.self.now c.requires.starts.row.ready c.requires.starts.why
-    c.args.gone c.args.content refl
+into_multi-carrier-requires g c = settle-many c.args.self.now c.requires.starts.row
+
+pub settle_pooled-requires-clause-migrates : goal.settle_pooled-requires-clause-migrates
+settle_pooled-requires-clause-migrates g c =
+    moves-on c.args.self.now c.requires.starts.row (λ off. off)
 
 pub settle_pooled-requires-clause-carrier : goal.settle_pooled-requires-clause-carrier
-settle_pooled-requires-clause-carrier g c = as-carrier c.number-number.ensures
-    c.requires.starts.row.schedulers
-    (settle-carrier c.args.self.now c.requires.starts.row.ready c.requires.starts.why c.args.gone c.args.content
-    refl)
+settle_pooled-requires-clause-carrier g c =
+    settle-carrier c.args.self.now c.requires.starts.row c.number-number.ensures
 
 pub settle_pooled-requires-clause-busy : goal.settle_pooled-requires-clause-busy
 settle_pooled-requires-clause-busy g c =
-    subst (λ n. IfSome (g.S.Shared.shared c.args.shared.now)
-    (λ s. s.places n ≡ Busy c.args.self.now.number)) (sym c.number-number.ensures)
-    (settle-busy c.args.self.now c.requires.starts.row.ready c.requires.starts.why c.args.gone c.args.content refl)
+    settle-busy c.args.self.now c.requires.starts.row c.number-number.ensures
 
 pub settle_pooled-requires-clause-content : goal.settle_pooled-requires-clause-content
-settle_pooled-requires-clause-content g c =
-    let x = c.args.content in
-    as-for c.number-number.ensures c.into_multi-carrier.ensures
-    (settle-for c.args.self.now c.requires.starts.row.ready c.requires.starts.why c.args.gone x
-    refl c.largest-largest.result
+settle_pooled-requires-clause-content g c = settle-for c.args.self.now c.requires.starts.row
+    c.number-number.ensures c.into_multi-carrier.ensures
     (λ none. let no : false ≡ true = sym c.if-is_empty.false ∙ c.is_empty.ensures.1 none in cc)
-    (c.largest-largest.ensures
-    ∙ ap (λ (y : Content). largest (gaps_of y)) c.into_multi-carrier.ensures))
-
-pub settle_employed-requires-clause-migrates : goal.settle_employed-requires-clause-migrates
-settle_employed-requires-clause-migrates g c = moves-on c.args.self.now c.requires.starts.row (λ off. off)
-
-pub settle_pooled-requires-clause-migrates : goal.settle_pooled-requires-clause-migrates
-settle_pooled-requires-clause-migrates g c = moves-on c.args.self.now c.requires.starts.row (λ off. off)
+    c.largest-largest.ensures

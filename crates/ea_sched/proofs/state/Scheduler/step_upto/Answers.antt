@@ -18,8 +18,7 @@ returns-then-passed-gt0-clause-ready g c =
     let s = c.args.self.now in
     let run = c.pass_looks-passed.ensures.run in
     step-ready s c.pass_looks-passed.new.self c.pass_looks-passed.result
-    (g.S.Shared.shared c.args.shared.now) (g.S.Shared.shared c.args.shared.now)
-    (g.S.Shared.caller c.args.shared.now) (g.S.Shared.caller c.args.shared.now)
+    (g.S.Shared.told c.args.shared.now) (g.S.Shared.told c.args.shared.now)
     run.0 run.1 run.2 (c.requires.ready c.if-self.false)
     (c.pass_looks-passed.ensures.step (omega (arith, c.if-passed-gt0.true)))
 
@@ -31,10 +30,7 @@ returns-then-passed-gt0-clause-went g c = λ _.
 -- where it takes a step, as it stands
 pub advance-requires-clause-starts : goal.advance-requires-clause-starts
 advance-requires-clause-starts g c =
-    subst (λ (x : Scheduler). StartsRow x.stage x
-    (g.S.Shared.schedulers c.args.shared.now) (g.S.Shared.greatest c.args.shared.now)
-    (g.S.Shared.migrates c.args.shared.now) (g.S.Shared.shared c.args.shared.now)
-    (g.S.Shared.caller c.args.shared.now))
+    subst (λ (x : Scheduler). StartsRow x.stage x (g.S.Shared.told c.args.shared.now))
     (sym (c.pass_looks-passed.ensures.none (omega (arith, c.if-passed-gt0.false)))) (record {
       schedulers = c.requires.schedulers;
       greatest = c.requires.greatest;
@@ -54,13 +50,11 @@ took g c = λ _.
     let s = c.args.self.now in
     let same = c.pass_looks-passed.ensures.none (omega (arith, c.if-passed-gt0.false)) in
     let t = c.advance.new.self in
-    let shared = g.S.Shared.shared c.args.shared.now in
-    let then = g.S.Shared.shared c.advance.new.shared in
-    let caller = g.S.Shared.caller c.args.shared.now in
-    let now = g.S.Shared.caller c.advance.new.shared in
-    row-stepped s t shared then caller now (c.requires.ready c.if-self.false)
+    let told = g.S.Shared.told c.args.shared.now in
+    let new = g.S.Shared.told c.advance.new.shared in
+    row-stepped s t told new (c.requires.ready c.if-self.false)
     (goes-on s (sym c.rests.ensures ∙ c.if-rests.false))
-    (subst (λ (x : Scheduler). ObservedRow x.stage x t shared then caller now) same
+    (subst (λ (x : Scheduler). ObservedRow x.stage x t told new) same
     (went c.advance.result c.advance.ensures.row c.if-is_err.ensures.value))
 
 pub returns-clause-step : goal.returns-clause-step
@@ -77,8 +71,7 @@ returns-clause-ready g c =
     let same = c.advance.ensures.same in
     let run = c.pass_looks-passed.ensures.run in
     step-ready s c.advance.new.self 1
-    (g.S.Shared.shared c.args.shared.now) (g.S.Shared.shared c.advance.new.shared)
-    (g.S.Shared.caller c.args.shared.now) (g.S.Shared.caller c.advance.new.shared)
+    (g.S.Shared.told c.args.shared.now) (g.S.Shared.told c.advance.new.shared)
     (same.config ∙ run.0) (same.trace ∙ run.1) (same.number ∙ run.2)
     (c.requires.ready c.if-self.false) (took g c (omega arith))
 
@@ -93,7 +86,6 @@ returns-clause-left g c = λ _.
 
 pub returns-then-is_err-clause-memory : goal.returns-then-is_err-clause-memory
 returns-then-is_err-clause-memory g c = λ _.
-    subst (λ (x : Scheduler). PlansAt x.stage x (g.S.Shared.shared c.args.shared.now)
-    (g.S.Shared.caller c.args.shared.now))
+    subst (λ (x : Scheduler). PlansAt x.stage x (g.S.Shared.told c.args.shared.now))
     (c.pass_looks-passed.ensures.none (omega (arith, c.if-passed-gt0.false)))
     (failed-so c.advance.result c.advance.ensures.memory c.if-is_err.ensures.value)

@@ -1,9 +1,9 @@
-use Rattle.std.proofs.Common.{Some, None, refl, sym, ap, ◌∙◌, subst}
+use Rattle.std.proofs.Common.{refl, sym, ap, ◌∙◌, subst}
 use Rattle.ea_sched.specs.Steps.{IsReady}
 use Rattle.ea_table.specs.declared.pass.Pass.{Pass}
 use Rattle.ea_table.specs.declared.views.View.{View}
 use Rattle.ea_table.specs.Ending.{IsCounted}
-use Rattle.ea_table.specs.Ruling.{caller_in}
+use Rattle.ea_table.specs.Ruling.{told_in}
 use Rattle.ea_table.proofs.Threading.{first-counted, first-ready}
 use Rattle.ea_table.proofs.worker.Worker.begin.Goals as goal
 
@@ -35,7 +35,7 @@ returns c =
       known_trace = ap (λ (p : Pass). p.seat.me.0.trace) pass
           ∙ ap (λ (v : View). v.trace) fresh.pass.view;
       ready = λ going.
-          subst (λ (p : Pass). IsReady w.scheduler None (Some (caller_in p.seat.me.0))) (sym pass)
+          subst (λ (p : Pass). IsReady w.scheduler (told_in p.seat.me.0)) (sym pass)
           (first-ready b.table.shared.key.config b.table.shared.key.trace.now
           b.table.shared.table_id w.scheduler.number c.requires.config c.requires.trace w fresh);
       counted = λ going. subst (λ (p : Pass). IsCounted p.seat.me.0 w.scheduler) (sym pass)

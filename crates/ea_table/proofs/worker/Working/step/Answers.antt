@@ -6,7 +6,6 @@ use Rattle.ea_machine.specs.Stops.{less}
 use Rattle.ea_sched.specs.declared.state.Scheduler.{Scheduler}
 use Rattle.ea_table.specs.declared.shared.TableShared.{TableShared}
 use Rattle.ea_table.specs.Ending.{IsCounted}
-use Rattle.ea_table.specs.Ruling.{caller_in}
 use Rattle.ea_table.proofs.WorkerSteps.{Steps, just-one, step-counted, step-enters, step-less}
 use Rattle.ea_table.proofs.worker.Working.step.Goals as goal
 
@@ -35,8 +34,8 @@ pub returns-clause-less : goal.returns-clause-less
 returns-clause-less g c = λ went.
     let s = c.args.self.now.scheduler in
     let new = c.step_upto.new.self in
-    let x = caller_in c.args.self.now.shared.pass.seat.me.0 in
-    let y = caller_in c.step_upto.new.shared.pass.seat.me.0 in
+    let x = c.args.self.now.shared.pass.seat.me.0 in
+    let y = c.step_upto.new.shared.pass.seat.me.0 in
     let e = c.in_ok-taken.ensures in
     let some : 1 ≤ c.in_ok-taken.taken = grind (arith, went) in
     step-less s new x y e.run.0 e.run.1 (c.requires.works.4.ready e.goes.0) (e.went some).1
@@ -46,8 +45,8 @@ pub returns-clause-entry : goal.returns-clause-entry
 returns-clause-entry g c = λ went.
     let s = c.args.self.now.scheduler in
     let new = c.step_upto.new.self in
-    let x = caller_in c.args.self.now.shared.pass.seat.me.0 in
-    let y = caller_in c.step_upto.new.shared.pass.seat.me.0 in
+    let x = c.args.self.now.shared.pass.seat.me.0 in
+    let y = c.step_upto.new.shared.pass.seat.me.0 in
     let e = c.in_ok-taken.ensures in
     let some : 1 ≤ c.in_ok-taken.taken = grind (arith, went) in
     step-enters s new x y (c.requires.works.4.ready e.goes.0)
@@ -73,7 +72,7 @@ returns-clause-works g c = λ d t id i at.
       counted = λ going. elim (cases_lt 0 k) [
         | inl some ↦ step-counted s new v u e.run.0 e.run.1 e.run.2 (e.went some).0
             (just-one (λ n. new.left ≡ less s.left n) k e.few some (e.left some).1)
-            (just-one (Steps s new (caller_in v) (caller_in u)) k e.few some (e.step some)) was
+            (just-one (Steps s new v u) k e.few some (e.step some)) was
         | inr none ↦
             let rest = e.rests (omega (arith, none)) in
             subst (λ (z : Scheduler). IsCounted u z) (sym rest.1)
