@@ -2,7 +2,7 @@
 -- a carrier by their answers.
 use Rattle.std.proofs.Common.{◌≤◌, ◌≡◌, ◌≢◌, ℕ, ◌*◌, ◌<◌, [], refl, sym, ap, ◌∙◌}
 use Rattle.std.proofs.Common.{subst, arith}
-use Rattle.std.specs.Prelude.{Bool, IfSome, IsSome, None, Option, ◌+◌, length}
+use Rattle.std.specs.Prelude.{IfSome, IsSome, None, ◌+◌, length}
 use Rattle.ea_model.specs.declared.units.TheConstants.{NUMBERS}
 use Rattle.ea_model.specs.declared.carriers.Kind.TheVariants.{Multi}
 use Rattle.ea_model.specs.Content.{Content, block_at, gaps_of, largest}

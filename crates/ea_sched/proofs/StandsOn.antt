@@ -1,6 +1,6 @@
 -- Where a scheduler stands shows that carriers migrate.
-use Rattle.std.proofs.Common.{◌≡◌, ℕ, Bor, true, false, refl, ap, ◌∙◌, subst}
-use Rattle.std.specs.Prelude.{Bool, Option}
+use Rattle.std.proofs.Common.{◌≡◌, Bor, true, false, refl, ap, ◌∙◌, subst}
+use Rattle.std.specs.Prelude.{Bool}
 use Rattle.ea_model.specs.declared.trace.Trace.{Trace}
 use Rattle.ea_model.specs.Content.{Content}
 use Rattle.ea_machine.specs.declared.stages.Stage.{Stage}

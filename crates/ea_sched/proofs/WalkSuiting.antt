@@ -1,6 +1,6 @@
 -- After a route that is over, or a carrier that was collected, the scheduler can work off its walk.
 use Rattle.std.proofs.Common.{◌≡◌, ℕ, refl, sym, ap, ◌∙◌, subst}
-use Rattle.std.specs.Prelude.{None, Option}
+use Rattle.std.specs.Prelude.{None}
 use Rattle.ea_model.specs.Content.{Content}
 use Rattle.ea_model.specs.Settings.{IsValidConfig}
 use Rattle.ea_model.specs.Trace.{IsScheduler, IsValidTrace}

@@ -1,5 +1,5 @@
 -- What a row of a release route leaves, and where a scheduler goes on from there.
-use Rattle.std.specs.Prelude.{◌≡◌, ℕ, Bool, Option}
+use Rattle.std.specs.Prelude.{◌≡◌, ℕ}
 use Rattle.ea_model.specs.Content.{Content}
 use Rattle.ea_machine.specs.declared.stages.Route.{Route}
 use Rattle.ea_machine.specs.declared.stages.Stage.{Stage}
@@ -30,9 +30,9 @@ carried_on setup me why t = onward setup me (carried why (after_route setup me w
 
 -- the scheduler is to do the row of a route, whatever the block is released for
 pub record StartsRoute (route : Route Content) (gone : Gone) (s : Scheduler) (told : Told) : Type 0
-    where
-  pub why : Why
-  pub row : StartsRow (Routed route why gone) s told
+  where
+    pub why : Why
+    pub row : StartsRow (Routed route why gone) s told
 
 -- the row of a route that the scheduler wanted was done, and its answer leaves this
 pub record TurnedRow (route : Route Content) (gone : Gone) (s t : Scheduler) (left : Turned)
