@@ -29,7 +29,7 @@ use Rattle.ea_machine.specs.Stops.{count_of, left_after, stop_of}
 use Rattle.ea_sched.specs.declared.state.Scheduler.{Scheduler}
 use Rattle.ea_sched.specs.Acting.{actor_of, stop_line}
 use Rattle.ea_shared.specs.Carriers.{IsCarrier, home_of}
-use Rattle.ea_word.specs.Codes.{IsCodable, IsShown}
+use Rattle.ea_word.specs.Codes.{IsCodable, IsShown, word_in}
 use Rattle.ea_table.specs.declared.views.View.{View}
 use Rattle.ea_table.specs.declared.worker.Finished.{Finished}
 use Rattle.ea_table.specs.Ruling.{acting, actor_in}
