@@ -1,6 +1,6 @@
 //! What schedulers share of a carrier.
 
-/// A carrier's owner word. Instances are 1 to 16, and `largest` is in units.
+/// A carrier's owner word. Instances are numbered from 1, and `largest` is in units.
 #[derive(Debug, Clone, Copy, PartialEq, Eq)]
 pub enum OwnerWord {
     /// No carrier has the number.
