@@ -9,8 +9,9 @@ use Rattle.ea_trace.specs.Language.{LineWords, WordLines, trace_of}
 use Rattle.ea_trace.specs.Taken.{HasTaken}
 use Rattle.ea_trace.specs.declared.reader.TraceReader.{TraceReader}
 use Rattle.ea_trace.proofs.Taken.{earlier_more}
+use Rattle.ea_frame.specs.Lines.{rest_lines}
 use Rattle.ea_contents.specs.Language.{and_line, blanked, is_access}
-use Rattle.ea_contents.specs.Reading.{Knows, Reads, rest_lines}
+use Rattle.ea_contents.specs.Reading.{Knows, Reads}
 use Rattle.ea_contents.specs.declared.accesses.Accesses.{Accesses}
 
 -- a line of the trace stays, and a write or a read is an empty line

@@ -1,13 +1,11 @@
 -- What the reader of an input knows after some of its lines, and what it answers.
 use Rattle.std.specs.Prelude.{◌≡◌, ℕ, ◌-◌, ◌<◌, ◌≤◌, List, [], ◌∷◌, ◌++◌, Option, Some, None}
 use Rattle.std.specs.Prelude.{◌+◌, if◌then◌else◌, Result, Ok, Err, length, map, slice_set}
-use Rattle.std.specs.Option.{option_map_or}
-use Rattle.std.specs.Borrow.{Bor}
 use Rattle.ea_model.specs.Lists.{Items}
 use Rattle.ea_model.specs.Trace.{IsScheduler, plain}
 use Rattle.ea_model.specs.declared.trace.Trace.{Trace}
 use Rattle.ea_trace.specs.Between.{earlier_of}
-use Rattle.ea_trace.specs.Language.{Earlier, WordLines, is_held, lines_of, section_operations, sections}
+use Rattle.ea_trace.specs.Language.{Earlier, WordLines, is_held, section_operations, sections}
 use Rattle.ea_trace.specs.Language.{trace_of}
 use Rattle.ea_trace.specs.Taken.{HasTaken}
 use Rattle.ea_trace.specs.declared.fault.TraceFault.{TraceFault}
@@ -30,10 +28,6 @@ abbrev pub GivesInput : Result ContentsInput TraceFault → Result Request Trace
 GivesInput (Ok i) asked = asked ≡ Ok (request_in i)
 GivesInput (Err OutOfMemory) asked = Unit {0}
 GivesInput (Err f) asked = asked ≡ Err f
-
--- the lines of what is left of a text
-abbrev pub rest_lines : Option (Bor (List ℕ)) → WordLines
-rest_lines rest = option_map_or (λ r. lines_of r.now) rest []
 
 abbrev pub lists_of : List (Items Placed) → List (List Placed)
 lists_of lists = map (λ l. l.items) lists

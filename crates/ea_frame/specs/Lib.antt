@@ -2,4 +2,5 @@ pub mod Answered
 pub mod Faults
 pub mod Inputs
 pub mod Language
+pub mod Lines
 pub mod Whys

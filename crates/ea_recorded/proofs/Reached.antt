@@ -19,12 +19,13 @@ use Rattle.ea_trace.specs.Lines.{Said, line_of_words, scheduler_in}
 use Rattle.ea_trace.specs.declared.fault.TraceFault.{TraceFault}
 use Rattle.ea_trace.specs.declared.fault.TraceFault.TheVariants as fault
 use Rattle.ea_trace.specs.declared.lines.Line.TheVariants as said
+use Rattle.ea_frame.specs.Lines.{rest_lines}
 use Rattle.ea_recorded.specs.Input.{GivesInput}
 use Rattle.ea_recorded.specs.Language.{Asked, Told, addressed, after_first, asked_by, is_bad}
 use Rattle.ea_recorded.specs.Language.{line_by, line_of, may_stand, next, operation_by, order_of}
 use Rattle.ea_recorded.specs.Language.{answer_in, asked_for, asked_if, ended_letter, read_after}
 use Rattle.ea_recorded.specs.Language.{refusal, refused_by, told_by, trace_lines, words_of}
-use Rattle.ea_recorded.specs.Reading.{Reads, rest_lines}
+use Rattle.ea_recorded.specs.Reading.{Reads}
 use Rattle.ea_recorded.specs.Told.{AreTold, IsSaid, ToldLines}
 use Rattle.ea_recorded.specs.declared.lines.OwnLine.{OwnLine}
 use Rattle.ea_recorded.specs.declared.lines.RecordedLine.{RecordedLine}

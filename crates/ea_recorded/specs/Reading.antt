@@ -1,16 +1,10 @@
 -- What the reading of an input knows after some of its lines.
-use Rattle.std.specs.Prelude.{◌≡◌, ℕ, ◌+◌, ◌≤◌, [], All, List, Option, length}
-use Rattle.std.specs.Option.{option_map_or}
-use Rattle.std.specs.Borrow.{Bor}
+use Rattle.std.specs.Prelude.{◌≡◌, ℕ, ◌+◌, ◌≤◌, [], All, length}
 use Rattle.ea_model.specs.Trace.{IsScheduler}
-use Rattle.ea_trace.specs.Language.{WordLines, lines_of}
+use Rattle.ea_trace.specs.Language.{WordLines}
 use Rattle.ea_recorded.specs.Language.{Asked, order_of, read_after}
 use Rattle.ea_recorded.specs.Told.{AreTold, ToldLines}
 use Rattle.ea_recorded.specs.declared.reader.Reading.{Reading}
-
--- the lines of what is left of a text
-abbrev pub rest_lines : Option (Bor (List ℕ)) → WordLines
-rest_lines rest = option_map_or (λ r. lines_of r.now) rest []
 
 -- before the lines that are left, of which the first has this number, the lines so far of
 -- operations of n schedulers were told, and those with the lines that are left give what is asked

@@ -1,24 +1,18 @@
 -- The lines of a text, one by one.
-use Rattle.std.proofs.Common.{◌≡◌, ℕ, ◌+◌, ◌<◌, ◌≤◌, List, [], ◌∷◌, Option, Some, None, Err}
+use Rattle.std.proofs.Common.{◌≡◌, ℕ, ◌+◌, ◌<◌, ◌≤◌, List, [], ◌∷◌, Option, Some, None}
 use Rattle.std.proofs.Common.{length, map, true, false, refl, sym, ap, subst, ◌∙◌, arith}
 use Rattle.std.specs.Borrow.{Bor}
 use Rattle.std.specs.Option.{option_map_or}
 use Rattle.std.specs.Prelude.{IfSome}
 use Rattle.ea_model.specs.Words.{lines, words}
-use Rattle.ea_trace.specs.Language.{WordLines, lines_of}
+use Rattle.ea_trace.specs.Language.{lines_of}
 use Rattle.ea_trace.specs.declared.fault.TraceFault.{TraceFault}
-use Rattle.ea_trace.specs.declared.fault.TraceFault.TheVariants as fault
-use Rattle.ea_super.specs.Knows.{IsRefusal}
+use Rattle.ea_frame.specs.Lines.{rest_lines}
 use Rattle.ea_super.specs.Language.{Answer, Earlier, is_bad_scheduler, is_many, is_not_held}
 use Rattle.ea_super.specs.Language.{is_reused, may_stand, read_after, refusal, refused_or}
 use Rattle.ea_super.specs.Language.{sections, stage_after}
 use Rattle.ea_super.specs.Lines.{line_of_words}
-use Rattle.ea_super.specs.Reading.{Gives}
 use Rattle.ea_super.specs.declared.lines.Line.{Line}
-
--- the lines of what is left of a text
-abbrev pub rest_lines : Option (Bor (List ℕ)) → WordLines
-rest_lines rest = option_map_or (λ r. lines_of r.now) rest []
 
 -- what these give after the earlier ones
 abbrev pub read_rest : ℕ → Earlier → Option (Bor (List ℕ)) → Answer

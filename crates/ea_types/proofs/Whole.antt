@@ -16,13 +16,14 @@ use Rattle.ea_model.specs.declared.trace.Trace.{Trace}
 use Rattle.ea_trace.specs.Language.{LineWords, WordLines, lines_of}
 use Rattle.ea_trace.specs.declared.fault.TraceFault.{TraceFault}
 use Rattle.ea_trace.specs.declared.fault.TraceFault.TheVariants as fault
+use Rattle.ea_frame.specs.Lines.{rest_lines}
 use Rattle.ea_types.specs.Courses.{AreParts}
 use Rattle.ea_types.specs.Input.{AreGiven, AreUnstopped}
 use Rattle.ea_types.specs.Input.{AreCounted, GivesAll, HaveOneMode, HaveTexts}
 use Rattle.ea_types.specs.Language.{Answers, are_different, are_many, are_types, before_first}
 use Rattle.ea_types.specs.Language.{from_first, letters_in, projection, read_rest, refused_if}
 use Rattle.ea_types.specs.Language.{traces_by, traces_of, types_in, wrong_at}
-use Rattle.ea_types.specs.Reading.{IsWrongAt, Reads, Whole, rest_lines, whole_of}
+use Rattle.ea_types.specs.Reading.{IsWrongAt, Reads, Whole, whole_of}
 use Rattle.ea_types.specs.Readers.{GivesEach, HasRead, HasRoom, letters_of}
 use Rattle.ea_types.specs.Sections.{all_parts, and_part, parts_over, parts_with}
 use Rattle.ea_types.specs.declared.input.TheConstants.{MAX_TYPES}

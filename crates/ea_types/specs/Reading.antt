@@ -1,13 +1,13 @@
 -- What the reading of the lines knows.
 use Rattle.std.specs.Prelude.{◌≡◌, ℕ, ◌+◌, ◌≤◌, false, List, ◌∷◌, ◌++◌, Option, Some, None}
 use Rattle.std.specs.Prelude.{All, [], length}
-use Rattle.std.specs.Borrow.{Bor}
 use Rattle.std.specs.Option.{option_map_or}
 use Rattle.ea_model.specs.Words.{words}
 use Rattle.ea_model.specs.declared.settings.Letter.{Letter}
-use Rattle.ea_trace.specs.Language.{WordLines, lines_of}
+use Rattle.ea_trace.specs.Language.{WordLines}
 use Rattle.ea_trace.specs.declared.fault.TraceFault.{TraceFault}
 use Rattle.ea_trace.specs.declared.fault.TraceFault.TheVariants as fault
+use Rattle.ea_frame.specs.Lines.{rest_lines}
 use Rattle.ea_types.specs.Language.{before_first, from_first, left_on, parts_of, projection}
 use Rattle.ea_types.specs.Language.{type_line}
 use Rattle.ea_types.specs.Language.{wrong_at}
@@ -15,10 +15,6 @@ use Rattle.ea_types.specs.Readers.{HasRead, TypeLines, letters_of}
 use Rattle.ea_types.specs.Sections.{AreParts}
 use Rattle.ea_types.specs.declared.reader.FirstLine.{FirstLine}
 use Rattle.ea_types.specs.declared.reader.Reading.{Reading}
-
--- the lines of what is left of a text
-abbrev pub rest_lines : Option (Bor (List ℕ)) → WordLines
-rest_lines rest = option_map_or (λ r. lines_of r.now) rest []
 
 -- the first of these lines that isn't skipped, of a text of that many bytes
 pub record IsFirstLine (size : ℕ) (ls : WordLines) (f : FirstLine) : Type 0 where

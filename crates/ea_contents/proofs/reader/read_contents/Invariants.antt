@@ -2,7 +2,8 @@ use Rattle.std.proofs.Common.{◌+◌, ◌≤◌, length}
 use Rattle.std.specs.Option.{option_map_or}
 use Rattle.ea_trace.specs.Language.{lines_of}
 use Rattle.ea_trace.specs.Taken.{lines_taken}
-use Rattle.ea_contents.specs.Reading.{Reads, rest_lines}
+use Rattle.ea_frame.specs.Lines.{rest_lines}
+use Rattle.ea_contents.specs.Reading.{Reads}
 use Rattle.ea_contents.proofs.reader.read_contents.Given as goal
 
 abbrev pub invariant-loop-rest : goal.invariant-loop-rest

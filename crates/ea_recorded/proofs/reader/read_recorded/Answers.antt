@@ -4,8 +4,9 @@ use Rattle.std.specs.Prelude.{All, IfOk}
 use Rattle.ea_model.specs.Trace.{IsScheduler, IsValidTrace}
 use Rattle.ea_model.specs.Words.{words}
 use Rattle.ea_trace.specs.Language.{lines_of}
+use Rattle.ea_frame.specs.Lines.{rest_lines}
 use Rattle.ea_recorded.specs.Language.{Asked, recorded}
-use Rattle.ea_recorded.specs.Reading.{Reads, rest_lines}
+use Rattle.ea_recorded.specs.Reading.{Reads}
 use Rattle.ea_recorded.proofs.Reached.{at-number, few-lines, fewer-left, lines-first}
 use Rattle.ea_recorded.proofs.reader.read_recorded.Goals as goal
 

@@ -1,7 +1,8 @@
 use Rattle.std.proofs.Common.{◌+◌, ◌≤◌, length}
 use Rattle.std.specs.Option.{option_map_or}
+use Rattle.ea_frame.specs.Lines.{rest_lines}
 use Rattle.ea_recorded.specs.Language.{recorded}
-use Rattle.ea_recorded.specs.Reading.{Reads, rest_lines}
+use Rattle.ea_recorded.specs.Reading.{Reads}
 use Rattle.ea_recorded.proofs.reader.read_recorded.Given as goal
 
 abbrev pub invariant-loop-rest : goal.invariant-loop-rest

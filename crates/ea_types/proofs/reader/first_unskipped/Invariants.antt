@@ -1,8 +1,8 @@
 use Rattle.std.proofs.Common.{◌≡◌, ◌+◌, ◌≤◌, length}
 use Rattle.std.specs.Option.{option_map_or}
 use Rattle.ea_trace.specs.Language.{lines_of}
+use Rattle.ea_frame.specs.Lines.{rest_lines}
 use Rattle.ea_types.specs.Language.{before_first, from_first}
-use Rattle.ea_types.specs.Reading.{rest_lines}
 use Rattle.ea_types.proofs.reader.first_unskipped.Given as goal
 
 abbrev pub invariant-loop-rest : goal.invariant-loop-rest

@@ -5,10 +5,11 @@ use Rattle.std.proofs.lemmas.Result.{err_from_is_err_and}
 use Rattle.ea_model.specs.Words.{words}
 use Rattle.ea_model.specs.declared.settings.Letter.{Letter}
 use Rattle.ea_trace.specs.Language.{WordLines, lines_of}
+use Rattle.ea_frame.specs.Lines.{rest_lines}
 use Rattle.ea_types.specs.Courses.{AreParts}
 use Rattle.ea_types.specs.Input.{AreCounted}
 use Rattle.ea_types.specs.Language.{are_many, before_first, parts_of, traces_of, types_in}
-use Rattle.ea_types.specs.Reading.{Reads, Whole, rest_lines, whole_of}
+use Rattle.ea_types.specs.Reading.{Reads, Whole, whole_of}
 use Rattle.ea_types.specs.Readers.{GivesEach}
 use Rattle.ea_types.proofs.Beginning.{before-skipped, begins-with}
 use Rattle.ea_types.proofs.Whole.{IsFound, counts-all, each-room, err-given, few-in}

@@ -1,7 +1,8 @@
 use Rattle.std.proofs.Common.{◌+◌, ◌≤◌, length}
 use Rattle.std.specs.Option.{option_map_or}
 use Rattle.ea_trace.specs.Language.{lines_of}
-use Rattle.ea_types.specs.Reading.{Reads, rest_lines, whole_of}
+use Rattle.ea_frame.specs.Lines.{rest_lines}
+use Rattle.ea_types.specs.Reading.{Reads, whole_of}
 use Rattle.ea_types.proofs.reader.read_types.Given as goal
 
 abbrev pub invariant-loop-rest : goal.invariant-loop-rest
