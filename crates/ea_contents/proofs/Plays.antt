@@ -26,7 +26,8 @@ use Rattle.ea_machine.specs.Stops.{count_of, left_after, less, run_with_stops, s
 use Rattle.ea_sound.proofs.Totals.{put-here, put-other}
 use Rattle.ea_sound.proofs.TurnLists.{run-snoc, step-other}
 use Rattle.ea_sched.specs.Acting.{is_ended}
-use Rattle.ea_given.specs.Running.{StandsAt}
+use Rattle.ea_given.specs.Running.{StandsAt, left_to}
+use Rattle.ea_given.specs.Runs.{left_in}
 use Rattle.ea_sound.proofs.Stopping.{cut-none}
 use Rattle.ea_given.proofs.Running.{ended-is, work-is}
 use Rattle.ea_contents.specs.declared.access.Access.{Access}
@@ -38,8 +39,7 @@ use Rattle.ea_contents.specs.Model.{Moment, Script, advanced, done}
 use Rattle.ea_contents.specs.Model.{lists_after, past_after, play_on, turn}
 use Rattle.ea_contents.specs.Model.{waiting}
 use Rattle.ea_contents.specs.Placing.{IsAt, first_of, next_at}
-use Rattle.ea_contents.specs.Playing.{HasMade, PlayHas, PlaysAs, TellsOf}
-use Rattle.ea_contents.specs.Playing.{left_in, left_to, turns_to}
+use Rattle.ea_contents.specs.Playing.{HasMade, PlayHas, PlaysAs, TellsOf, turns_to}
 use Rattle.ea_contents.specs.Script.{list_for, script_of}
 use Rattle.ea_contents.specs.Sessions.{HasStepped, StandsWith}
 use Rattle.ea_contents.proofs.Endings.{EndsNone, EndsOne, ends-some, steps-less}

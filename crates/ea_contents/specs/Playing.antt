@@ -1,5 +1,5 @@
 -- The play of an input with writes and reads: its run, as it stands after turns of all kinds.
-use Rattle.std.specs.Prelude.{◌≡◌, ℕ, ◌+◌, ◌-◌, List, Option, None, Some, length, map, slice_get}
+use Rattle.std.specs.Prelude.{◌≡◌, ℕ, ◌+◌, ◌-◌, List, length, map}
 use Rattle.std.specs.List.{range_with_len}
 use Rattle.ea_model.specs.declared.outcome.Outcome.{Outcome}
 use Rattle.ea_model.specs.declared.settings.Config.{Config}
@@ -9,10 +9,7 @@ use Rattle.ea_machine.specs.Machine.{run}
 use Rattle.ea_machine.specs.Outcome.{outcome}
 use Rattle.ea_machine.specs.Setup.{Setup, setup_of}
 use Rattle.ea_machine.specs.State.{State}
-use Rattle.ea_mem_shared.specs.Memory.{Sharing}
-use Rattle.ea_sched.specs.declared.state.Scheduler.{Scheduler}
-use Rattle.ea_given.specs.declared.run.GivenRun.{GivenRun}
-use Rattle.ea_given.specs.Running.{work_left}
+use Rattle.ea_given.specs.Runs.{left_in}
 use Rattle.ea_contents.specs.declared.access.Access.{Access}
 use Rattle.ea_contents.specs.declared.access.AccessEntry.{AccessEntry}
 use Rattle.ea_contents.specs.declared.input.Placed.{Placed}
@@ -93,15 +90,7 @@ HasCompleted = HasPlayed (λ setup script m. completing setup script setup.sched
 abbrev pub IsOutcome : Outcome → Setup → State → Type 0
 IsOutcome o setup w = (turns : List ℕ) → w ≡ run setup turns → o ≡ outcome setup turns
 
--- the steps that are left to a scheduler at most, if no other one takes any
-abbrev pub left_to : Option Scheduler → Sharing → ℕ
-left_to None shared = 0
-left_to (Some s) shared = work_left s shared
-
-abbrev pub left_in : ℕ → GivenRun → ℕ
-left_in i r = left_to (slice_get r.schedulers.items (i - 1)) r.shared
-
--- the turns of all kinds
+-- the turns of all kinds that are left to a scheduler at most, if no other one takes any
 abbrev pub turns_to : ℕ → Play → ℕ
 turns_to i p = left_in i p.session.run
     + (length (list_for (map (λ s. s.items) p.sections.now) i)

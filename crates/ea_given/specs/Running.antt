@@ -98,6 +98,11 @@ alone_in s shared = record { shared = shared_of shared; actors = λ i. actor_of 
 abbrev pub work_left : Scheduler → Sharing → ℕ
 work_left s shared = work (setup_for s) (alone_in s shared) s.number
 
+-- none where there is no such scheduler
+abbrev pub left_to : Option Scheduler → Sharing → ℕ
+left_to None shared = 0
+left_to (Some s) shared = work_left s shared
+
 -- the run of the scheduler to its end, which leads to a state, is still to come from that state on,
 -- where that many steps are left until its stop
 abbrev pub LeadsTo : Setup → ℕ → Option ℕ → State → State → Type 0

@@ -1,6 +1,6 @@
 -- The run of a trace, as it stands after some turns.
-use Rattle.std.specs.Prelude.{◌≡◌, ℕ, ◌+◌, ◌*◌, ◌≤◌, Bool, false, List, ◌++◌, Option, is_some}
-use Rattle.std.specs.Prelude.{length}
+use Rattle.std.specs.Prelude.{◌≡◌, ℕ, ◌+◌, ◌-◌, ◌*◌, ◌≤◌, Bool, false, List, ◌++◌, Option}
+use Rattle.std.specs.Prelude.{is_some, length, slice_get}
 use Rattle.ea_model.specs.declared.carriers.Spot.{Spot}
 use Rattle.ea_model.specs.declared.settings.Config.{Config}
 use Rattle.ea_model.specs.declared.trace.Trace.{Trace}
@@ -13,7 +13,7 @@ use Rattle.ea_machine.specs.Setup.{Setup, setup_of}
 use Rattle.ea_machine.specs.Stops.{left_after, run_with_stops}
 use Rattle.ea_sched.specs.Acting.{is_ended}
 use Rattle.ea_given.specs.declared.run.GivenRun.{GivenRun}
-use Rattle.ea_given.specs.Running.{AllStandAt, SharesAt}
+use Rattle.ea_given.specs.Running.{AllStandAt, SharesAt, left_to}
 
 -- it is the run of the trace as it stands after these turns, of which each scheduler takes those up
 -- to its stop
@@ -66,6 +66,10 @@ spot_after setup turns me name = spot_named name ((run_with_stops setup turns).a
 abbrev pub holds_after : Setup → List ℕ → ℕ → ℕ → Bool
 holds_after setup turns me name =
     is_some (named_at name ((run_with_stops setup turns).actors me).held)
+
+-- the steps that are left to the scheduler of that number, at most, if no other one steps
+abbrev pub left_in : ℕ → GivenRun → ℕ
+left_in me run = left_to (slice_get run.schedulers.items (me - 1)) run.shared
 
 -- these are units of the super carrier, and at least one
 abbrev pub FitsSuperCarrier : Setup → Range → Type 0

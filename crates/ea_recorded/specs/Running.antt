@@ -1,10 +1,7 @@
 -- The run of a trace by its lines, as it stands after some.
-use Rattle.std.specs.Prelude.{◌≡◌, ℕ, ◌-◌, List, [], ◌++◌, All, Option, None, Some, slice_get}
+use Rattle.std.specs.Prelude.{◌≡◌, ℕ, List, [], ◌++◌, All}
 use Rattle.ea_machine.specs.Machine.{run}
-use Rattle.ea_mem_shared.specs.Memory.{Sharing}
-use Rattle.ea_sched.specs.declared.state.Scheduler.{Scheduler}
 use Rattle.ea_given.specs.declared.run.GivenRun.{GivenRun}
-use Rattle.ea_given.specs.Running.{work_left}
 use Rattle.ea_given.specs.Runs.{GoesOn, HasScheduler, IsRun}
 use Rattle.ea_recorded.specs.Order.{line_turns, turns_in_order}
 
@@ -24,11 +21,3 @@ HasRun me = GoesOn (λ setup turns. turns ++ line_turns setup (run setup turns) 
 -- it has taken those of lines of these schedulers, one after another
 abbrev pub HasRunAll : List ℕ → GivenRun → GivenRun → Type 0
 HasRunAll order = GoesOn (λ setup turns. turns ++ turns_in_order setup (run setup turns) order)
-
--- the turns that are left to the scheduler at most, if no other one takes any
-abbrev pub left_to : Option Scheduler → Sharing → ℕ
-left_to None shared = 0
-left_to (Some s) shared = work_left s shared
-
-abbrev pub left_in : ℕ → GivenRun → ℕ
-left_in me r = left_to (slice_get r.schedulers.items (me - 1)) r.shared

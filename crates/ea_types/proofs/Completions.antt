@@ -18,12 +18,13 @@ use Rattle.ea_machine.specs.State.{State}
 use Rattle.ea_machine.specs.Stops.{left_after, run_with_stops}
 use Rattle.ea_mem_shared.specs.Memory.{Sharing}
 use Rattle.ea_sched.specs.declared.state.Scheduler.{Scheduler}
-use Rattle.ea_given.specs.Running.{SharesAt, StandsAt, alone_in, work_left}
+use Rattle.ea_given.specs.Running.{SharesAt, StandsAt, alone_in, left_to, work_left}
 use Rattle.ea_given.specs.Runs as one
+use Rattle.ea_given.specs.Runs.{left_in}
 use Rattle.ea_types.specs.declared.given.TypedRun.{TypedRun}
 use Rattle.ea_types.specs.Courses.{types_of}
 use Rattle.ea_types.specs.Given.{HasNone, HasScheduler, HasTaken, IsEnding, IsRun}
-use Rattle.ea_types.specs.Given.{StandsAfter, all_left, left_in, left_to}
+use Rattle.ea_types.specs.Given.{StandsAfter, all_left}
 use Rattle.ea_types.specs.Turning.{Standing, Types, all_work, complete, completing, ending}
 use Rattle.ea_types.specs.Turning.{finishing}
 use Rattle.ea_types.specs.Turning.{own_on, own_turns, at_start, stands_after, turn_of, turned_by}

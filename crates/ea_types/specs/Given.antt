@@ -1,7 +1,7 @@
 -- The run of several types by turns, as it stands after some.
 use Rattle.std.specs.Prelude.{◌≡◌, ℕ, ◌+◌, ◌-◌, ◌<◌, ◌≤◌, Bool, true, List, [], ◌++◌, All}
-use Rattle.std.specs.Prelude.{Option, None, Some, drop, length, map, nat_lt, replicate, slice_get}
-use Rattle.std.specs.Prelude.{slice_index_or, sum_by}
+use Rattle.std.specs.Prelude.{None, Some, drop, length, map, nat_lt, replicate, slice_index_or}
+use Rattle.std.specs.Prelude.{sum_by}
 use Rattle.ea_model.specs.declared.outcome.Outcome.{Outcome}
 use Rattle.ea_model.specs.declared.settings.Config.{Config}
 use Rattle.ea_model.specs.declared.trace.Trace.{Trace}
@@ -10,13 +10,10 @@ use Rattle.ea_model.specs.Outcome.{plain_outcome}
 use Rattle.ea_model.specs.Settings.{IsValidConfig}
 use Rattle.ea_model.specs.Trace.{IsScheduler, IsValidTrace}
 use Rattle.ea_machine.specs.Outcome.{outcome}
-use Rattle.ea_mem_shared.specs.Memory.{Sharing}
-use Rattle.ea_sched.specs.declared.state.Scheduler.{Scheduler}
 use Rattle.ea_sched.specs.Acting.{is_ended}
 use Rattle.ea_given.specs.declared.run.GivenRun.{GivenRun}
-use Rattle.ea_given.specs.Running.{work_left}
 use Rattle.ea_given.specs.Runs as one
-use Rattle.ea_given.specs.Runs.{done_after}
+use Rattle.ea_given.specs.Runs.{done_after, left_in}
 use Rattle.ea_types.specs.declared.given.Next.{Next}
 use Rattle.ea_types.specs.declared.given.TypedRun.{TypedRun}
 use Rattle.ea_types.specs.Courses.{AreParts, types_of}
@@ -118,13 +115,6 @@ abbrev pub HasNone : ℕ → TypedRun → Type 0
 HasNone me = Tells (λ t p. turn_of t p me ≡ None)
 
 -- the turns that are left to the scheduler at most, if no other one takes any
-abbrev pub left_to : Option Scheduler → Sharing → ℕ
-left_to None shared = 0
-left_to (Some s) shared = work_left s shared
-
-abbrev pub left_in : ℕ → GivenRun → ℕ
-left_in me run = left_to (slice_get run.schedulers.items (me - 1)) run.shared
-
 abbrev pub all_left : ℕ → TypedRun → ℕ
 all_left me run = sum_by (left_in me) run.runs.items
 

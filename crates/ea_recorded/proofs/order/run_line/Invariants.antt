@@ -1,4 +1,4 @@
-use Rattle.ea_recorded.specs.Running.{left_in}
+use Rattle.ea_given.specs.Runs.{left_in}
 use Rattle.ea_recorded.proofs.Operating.{IsInLine}
 use Rattle.ea_recorded.proofs.order.run_line.Given as goal
 
