@@ -2,11 +2,10 @@
 ghost use Rattle.std.specs.Prelude.{◌≡◌};
 ghost use Rattle.ea_model.specs.Words.{words};
 ghost use Rattle.ea_recorded.specs.Language.{addressed, line_of};
-ghost use Rattle.ea_trace.specs.Language.{gives_outside, is_outside};
-ghost use Rattle.ea_trace.specs.Lines.{scheduler_in};
 
-use ea_model::words::{first_word, numeral};
+use ea_model::words::first_word;
 use ea_model::{Letter, Op};
+use ea_trace::words::scheduler;
 use ea_trace::{Line, read_line};
 
 /// What one line says.
@@ -43,14 +42,6 @@ pub struct OwnLine {
     pub op: Op,
 }
 
-/// The number of a scheduler that a word spells, be there one or not; `u32::MAX` for a greater one.
-fn scheduler(word: &[u8]) -> Option<u32>
-    ensures { result ≡ scheduler_in word.now }
-{
-    let value = numeral(word)?;
-    Some(value.min(u64::from(u32::MAX)) as u32)
-}
-
 /// A line that may be a scheduler's number and an operation.
 fn addressed_line(text: &[u8]) -> RecordedLine
     ensures { result ≡ addressed (words text.now) }
@@ -76,22 +67,5 @@ pub fn read_own(text: &[u8]) -> RecordedLine
         Line::Letter { letter } => RecordedLine::Letter { letter },
         Line::End => RecordedLine::End,
         _ => addressed_line(text),
-    }
-}
-
-/// Whether none of the schedulers 1 to `schedulers` has that number.
-pub fn is_nobody(schedulers: u32, number: u32) -> bool
-    ensures { result ≡ is_outside schedulers number }
-{
-    number == 0 || number > schedulers
-}
-
-/// Whether an operation gives to none of them.
-pub fn gives_to_nobody(schedulers: u32, op: Op) -> bool
-    ensures { result ≡ gives_outside schedulers op }
-{
-    match op {
-        Op::Give { to, .. } => is_nobody(schedulers, to),
-        _ => false,
     }
 }

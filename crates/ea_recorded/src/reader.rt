@@ -12,11 +12,11 @@ ghost use Rattle.ea_recorded.specs.Told.{AreTold, ToldLines};
 ghost use Rattle.ea_recorded.specs.declared.lines.Stage.TheVariants.{Start};
 
 use crate::input::RecordedInput;
-use crate::lines::{OwnLine, RecordedLine, Stage, gives_to_nobody, is_nobody, read_own};
+use crate::lines::{OwnLine, RecordedLine, Stage, read_own};
 use crate::sections::trace_of_lines;
 use ea_model::words::first_line;
 use ea_model::{Letter, List, OutOfMemory};
-use ea_trace::TraceFault;
+use ea_trace::{TraceFault, gives_outside, is_nobody};
 use std::alloc::Global;
 
 /// The part after a line that stands there.
@@ -61,7 +61,7 @@ fn is_bad(schedulers: u32, line: RecordedLine) -> bool
 {
     match line {
         RecordedLine::Operation { scheduler, op } => {
-            is_nobody(schedulers, scheduler) || gives_to_nobody(schedulers, op)
+            is_nobody(schedulers, scheduler) || gives_outside(schedulers, op)
         }
         _ => false,
     }

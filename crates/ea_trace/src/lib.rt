@@ -19,6 +19,8 @@ mod turns;
 pub mod words;
 
 pub use fault::TraceFault;
+pub use judging::gives_outside;
 pub use keywords::{Keyword, OpKind, is_comment, keyword_at, kind_at, letter_at, letter_word};
 pub use lines::{Line, read_line};
 pub use reader::{TraceReader, read_trace};
+pub use turns::is_nobody;
