@@ -2,6 +2,8 @@
 use Rattle.std.specs.Prelude.{ℕ, List, Option, Some, None, ◌++◌, codes, decimal}
 use Rattle.std.specs.Io.KnownBytes.{Appends}
 use Rattle.ea_io.specs.Fronts.{AppendsFront}
+use Rattle.ea_io.specs.Messages as reading
+use Rattle.ea_io.specs.declared.reading.ReadAllFault.TheVariants as unread
 use Rattle.ea_flags.specs.Refusals as words
 use Rattle.ea_frame.specs.declared.faults.Fault.{Fault}
 use Rattle.ea_frame.specs.declared.faults.Fault.TheVariants.{Words, Input, TooLong}
@@ -37,10 +39,10 @@ fault_text (Words refusal) =
     refusal_text (codes "word") (words.word_of refusal) (words.message_of refusal)
 fault_text (Input refusal) =
     refusal_text (codes "line") (trace.line_of refusal) (trace.message_of refusal)
-fault_text TooLong = codes "input too long"
-fault_text ReadFailed = codes "read failed"
+fault_text TooLong = reading.message_of unread.TooLong
+fault_text ReadFailed = reading.message_of unread.ReadFault
 fault_text WriteFailed = codes "write failed"
-fault_text OutOfMemory = codes "out of memory"
+fault_text OutOfMemory = reading.message_of unread.OutOfMemory
 fault_text ScheduleWanted = codes "schedule wanted"
 
 abbrev pub line_with : List ℕ → List ℕ
