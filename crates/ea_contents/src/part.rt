@@ -6,23 +6,21 @@ ghost use Rattle.ea_model.specs.Settings.{IsValidConfig};
 ghost use Rattle.ea_model.specs.declared.units.TheConstants.{MAX_INPUT};
 ghost use Rattle.ea_trace.specs.Language.{no_stops};
 ghost use Rattle.ea_contents.specs.Command.{contents_traces};
-ghost use Rattle.ea_given.specs.Layouts.{is_scheduled};
+ghost use Rattle.ea_given.specs.Layouts as layouts;
 
 use crate::playing::run_script;
 use crate::reader::read_contents;
 use crate::text::print_contents;
 use ea_frame::{Fault, Part};
-use ea_model::{Config, List, Mode, Trace};
+use ea_given::is_scheduled;
+use ea_model::{Config, List, Trace};
 use std::alloc::Global;
 
 /// Whether a trace has a schedule of its own, and no scheduler stops.
 fn is_run(trace: &Trace) -> bool
-    ensures { result ≡ (is_scheduled trace.now.mode && no_stops trace.now.stops.items) }
+    ensures { result ≡ (layouts.is_scheduled trace.now.mode && no_stops trace.now.stops.items) }
 {
-    match trace.mode {
-        Mode::Schedule { .. } => trace.stops.as_slice().is_empty(),
-        Mode::Threads | Mode::Generated { .. } => false,
-    }
+    is_scheduled(&trace.mode) && trace.stops.as_slice().is_empty()
 }
 
 /// What makes the text of an input with writes and reads.

@@ -5,7 +5,6 @@ ghost use Rattle.std.specs.List.{range_with_len};
 ghost use Rattle.ea_model.specs.Outcome.{plain_outcome};
 ghost use Rattle.ea_model.specs.Settings.{IsValidConfig};
 ghost use Rattle.ea_model.specs.Trace.{IsValidTrace};
-ghost use Rattle.ea_model.specs.Trace as traces;
 ghost use Rattle.ea_machine.specs.Completion.{turns_in};
 ghost use Rattle.ea_machine.specs.Setup.{setup_of};
 ghost use Rattle.ea_sched.specs.Acting.{is_ended};
@@ -22,7 +21,8 @@ ghost use Rattle.ea_contents.specs.Sessions.{IsSession, SessionHas};
 use crate::access::{Access, AccessEntry};
 use crate::input::{ContentsInput, Placed};
 use crate::session::Session;
-use ea_model::{Config, List, Mode, OutOfMemory, Outcome, Turns};
+use ea_given::turns_of;
+use ea_model::{Config, List, OutOfMemory, Outcome, Turns};
 use std::alloc::Global;
 
 /// What is printed of a run with writes and reads.
@@ -254,16 +254,6 @@ impl<'t> Play<'t> {
             outcome,
             shown: List::from_vec(self.shown),
         })
-    }
-}
-
-/// The turns of a schedule; another mode has none.
-fn turns_of(mode: &Mode) -> &[Turns]
-    ensures { result.now ≡ traces.turns_of mode.now }
-{
-    match mode {
-        Mode::Schedule { turns } => turns.as_slice(),
-        Mode::Threads | Mode::Generated { .. } => &[],
     }
 }
 

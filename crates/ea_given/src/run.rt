@@ -4,7 +4,6 @@ ghost use Rattle.std.specs.Prelude.{◌-◌, flat_map, get_or, is_some, length, 
 ghost use Rattle.ea_model.specs.Outcome.{plain_outcome};
 ghost use Rattle.ea_model.specs.Settings.{IsValidConfig};
 ghost use Rattle.ea_model.specs.Trace.{IsScheduler, IsValidTrace};
-ghost use Rattle.ea_model.specs.Trace as traces;
 ghost use Rattle.ea_machine.specs.Completion.{course_of};
 ghost use Rattle.ea_machine.specs.Machine.{start};
 ghost use Rattle.ea_machine.specs.Stops.{cut, run_with_stops};
@@ -21,24 +20,15 @@ ghost use Rattle.ea_given.specs.Runs.{FitsSuperCarrier, HasCompleted, HasSchedul
 ghost use Rattle.ea_given.specs.Runs.{StandsAfter, StaysInOperation, Tells, done_after, ended_after};
 ghost use Rattle.ea_given.specs.Runs.{holds_after, spot_after};
 
+use crate::modes::turns_of;
 use crate::turns::{run_out, take_some, take_turns};
 use ea_instance::Layout;
 use ea_mbc::Mbc;
 use ea_mem_shared::MemShared;
-use ea_model::{Config, List, Mode, OutOfMemory, Outcome, Spot, Trace, Turns};
+use ea_model::{Config, List, OutOfMemory, Outcome, Spot, Trace, Turns};
 use ea_outcome::{Extent, extent_of, layouts_of, outcome_of};
 use ea_sched::Scheduler;
 use std::alloc::Global;
-
-/// The turns of a schedule; another mode has none.
-fn turns_of(mode: &Mode) -> &[Turns]
-    ensures { result.now ≡ traces.turns_of mode.now }
-{
-    match mode {
-        Mode::Schedule { turns } => turns.as_slice(),
-        Mode::Threads | Mode::Generated { .. } => &[],
-    }
-}
 
 /// All schedulers of the run of a trace, in order, before their first step.
 fn schedulers_of<'t>(

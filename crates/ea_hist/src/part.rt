@@ -2,27 +2,16 @@
 ghost use Rattle.std.specs.Prelude.{◌≡◌, ◌≤◌, IfOk, IfErr, OnOk, length};
 ghost use Rattle.ea_frame.specs.Language.{HasText};
 ghost use Rattle.ea_frame.specs.Whys.{IsTextFault};
-ghost use Rattle.ea_given.specs.Layouts as given;
 ghost use Rattle.ea_hist.specs.Language.{histograms};
 ghost use Rattle.ea_model.specs.declared.units.TheConstants.{MAX_INPUT};
 ghost use Rattle.ea_model.specs.Settings.{IsValidConfig};
 
 use crate::text::print_histograms;
 use ea_frame::{Fault, Part};
-use ea_given::run_layouts;
-use ea_model::{Config, List, Mode};
+use ea_given::{is_scheduled, run_layouts};
+use ea_model::{Config, List};
 use ea_trace::read_trace;
 use std::alloc::Global;
-
-/// Whether a trace of this mode has a schedule of its own.
-fn is_scheduled(mode: &Mode) -> bool
-    ensures { result ≡ given.is_scheduled mode.now }
-{
-    match mode {
-        Mode::Schedule { .. } => true,
-        Mode::Threads | Mode::Generated { .. } => false,
-    }
-}
 
 /// What makes the histograms of a trace with a schedule.
 #[derive(Drop)]
