@@ -21,7 +21,7 @@ ghost use Rattle.ea_given.specs.Runs.{StandsAfter, StaysInOperation, Tells, done
 ghost use Rattle.ea_given.specs.Runs.{holds_after, spot_after};
 
 use crate::modes::turns_of;
-use crate::turns::{run_out, take_some, take_turns};
+use crate::turns::{run_out, step_some, take_turns};
 use ea_instance::Layout;
 use ea_mbc::Mbc;
 use ea_mem_shared::MemShared;
@@ -50,7 +50,7 @@ fn schedulers_of<'t>(
 }
 
 /// Takes the turns of a schedule.
-fn take_schedule(
+fn run_schedule(
     schedulers: &mut [Scheduler<'_>],
     alloc: Global,
     shared: &mut MemShared<Mbc>,
@@ -130,7 +130,7 @@ impl<'t> GivenRun<'t> {
         ensures { OnOk result (HasTaken (me ∷ []) self.old self.new) }
     {
         let index = me as usize - 1;
-        take_some(&mut self.schedulers[index], alloc, &mut self.shared, 1)?;
+        step_some(&mut self.schedulers[index], alloc, &mut self.shared, 1)?;
         Ok(())
     }
 
@@ -146,7 +146,7 @@ impl<'t> GivenRun<'t> {
         ensures looks { IfOk result (λ count.
             1 < count → StaysInOperation me (replicate count me) self.old) }
     {
-        take_some(
+        step_some(
             &mut self.schedulers[me as usize - 1],
             alloc,
             &mut self.shared,
@@ -222,7 +222,7 @@ impl<'t> GivenRun<'t> {
         ensures { OnOk result (HasTaken (flat_map (λ t. replicate t.count t.scheduler) schedule.now)
             self.old self.new) }
     {
-        take_schedule(&mut self.schedulers, alloc, &mut self.shared, schedule)
+        run_schedule(&mut self.schedulers, alloc, &mut self.shared, schedule)
     }
 
     /// Takes the turns that complete those that were taken: scheduler 1 goes on until it has ended

@@ -11,7 +11,7 @@ use std::alloc::Global;
 
 /// Takes turns of the scheduler, at least one and not more than `most`: looks of a search in a row,
 /// up to its stop, or one step, if it takes any more. Answers how many it took.
-pub(crate) fn take_some(
+pub(crate) fn step_some(
     scheduler: &mut Scheduler<'_>,
     alloc: Global,
     shared: &mut MemShared<Mbc>,
@@ -44,7 +44,7 @@ pub(crate) fn take_turns(
         if scheduler.rests() {
             return Ok(());
         }
-        left -= take_some(scheduler, alloc, shared, left)?;
+        left -= step_some(scheduler, alloc, shared, left)?;
     }
     Ok(())
 }
@@ -59,7 +59,7 @@ pub(crate) fn run_out(
     ensures { OnOk result (TookAll scheduler.old shared.old scheduler.new shared.new) }
 {
     while !scheduler.rests() {
-        take_some(scheduler, alloc, shared, u32::MAX)?;
+        step_some(scheduler, alloc, shared, u32::MAX)?;
     }
     Ok(())
 }

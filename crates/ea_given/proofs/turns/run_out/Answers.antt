@@ -13,8 +13,8 @@ pub loop-alloc-init : goal.loop-alloc-init
 loop-alloc-init c = λ d t me steps w shares at.
     (w, steps, shares, at, leads-first (setup_of d t) me steps w)
 
-pub take_some-requires-clause-stands : goal.take_some-requires-clause-stands
-take_some-requires-clause-stands c =
+pub step_some-requires-clause-stands : goal.step_some-requires-clause-stands
+step_some-requires-clause-stands c =
     let (d, t, me, steps, w, shares, at) = c.requires in
     let (now, left, shared_now, at_now, leads) = c.loop-alloc.invariant d t me steps w shares at in
     (d, t, me, left, now, shared_now, at_now)
@@ -23,8 +23,8 @@ pub loop-alloc-smaller : goal.loop-alloc-smaller
 loop-alloc-smaller c =
     let s = c.loop-alloc.scheduler in
     let m = c.loop-alloc.shared in
-    let k = c.in_ok-take_some.field-0 in
-    let did = c.in_ok-take_some.ensures in
+    let k = c.in_ok-step_some.field-0 in
+    let did = c.in_ok-step_some.ensures in
     let (d, t, me, steps, w, shares, at) = c.requires in
     let (now, left, shared_now, at_now, leads) = c.loop-alloc.invariant d t me steps w shares at in
     let next = run_on (setup_of d t) now (up_to left (replicate k me)) in
@@ -36,16 +36,16 @@ loop-alloc-smaller c =
           (stands-going d t me left s now at_now goes.0)
           (λ over. goes.1 (at_now.left goes.0 ∙ over)) did.few.0,
       work-is d t me left s now at_now m shared_now,
-      work-is d t me (less left k) c.take_some.new.scheduler next then.1 c.take_some.new.shared
+      work-is d t me (less left k) c.step_some.new.scheduler next then.1 c.step_some.new.shared
           then.0,
     )
 
 pub loop-alloc-preserved : goal.loop-alloc-preserved
 loop-alloc-preserved c = λ d t me steps w shares at.
     let e = setup_of d t in
-    let k = c.in_ok-take_some.field-0 in
+    let k = c.in_ok-step_some.field-0 in
     let (now, left, shared_now, at_now, leads) = c.loop-alloc.invariant d t me steps w shares at in
-    let then = c.in_ok-take_some.ensures.took d t me left now shared_now at_now in (
+    let then = c.in_ok-step_some.ensures.took d t me left now shared_now at_now in (
       run_on e now (up_to left (replicate k me)),
       less left k,
       then.0,

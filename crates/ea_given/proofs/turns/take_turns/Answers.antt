@@ -13,8 +13,8 @@ returns-then-rests c = took-all c.args.scheduler.now c.loop-left.scheduler c.arg
     c.loop-left.shared (c.args.count - c.loop-left.left) c.args.count (omega arith)
     (sym c.rests.ensures ∙ c.if-rests.true) c.loop-left.invariant.1
 
-pub take_some-requires-clause-stands : goal.take_some-requires-clause-stands
-take_some-requires-clause-stands c = took-stands c.args.scheduler.now c.loop-left.scheduler
+pub step_some-requires-clause-stands : goal.step_some-requires-clause-stands
+step_some-requires-clause-stands c = took-stands c.args.scheduler.now c.loop-left.scheduler
     c.args.shared.now c.loop-left.shared (c.args.count - c.loop-left.left) c.requires
     c.loop-left.invariant.1
 
@@ -24,11 +24,11 @@ loop-left-preserved c =
     let now = c.in_ok-left.field-0 in
     let few = c.in_ok-left.ensures.few in (
       omega (arith, c.loop-left.invariant.0),
-      took-count c.args.scheduler.now c.take_some.new.scheduler c.args.shared.now
-          c.take_some.new.shared (before + now) (c.args.count - (c.loop-left.left - now))
+      took-count c.args.scheduler.now c.step_some.new.scheduler c.args.shared.now
+          c.step_some.new.shared (before + now) (c.args.count - (c.loop-left.left - now))
           (omega (arith, c.loop-left.invariant.0, few.1))
           (took-more c.args.scheduler.now c.loop-left.scheduler c.args.shared.now
-          c.loop-left.shared before now c.take_some.new.scheduler c.take_some.new.shared
+          c.loop-left.shared before now c.step_some.new.scheduler c.step_some.new.shared
           c.loop-left.invariant.1 c.in_ok-left.ensures.took),
     )
 

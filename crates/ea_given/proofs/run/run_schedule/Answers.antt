@@ -4,7 +4,7 @@ use Rattle.ea_model.specs.declared.trace.Turns.{Turns}
 use Rattle.ea_given.specs.Running.{AllTook}
 use Rattle.ea_given.proofs.Ends.{all-stand-one, all-took-stand, none-taken, schedule-more}
 use Rattle.ea_given.proofs.Ends.{turns_from}
-use Rattle.ea_given.proofs.run.take_schedule.Goals as goal
+use Rattle.ea_given.proofs.run.run_schedule.Goals as goal
 
 pub loop-turns-init : goal.loop-turns-init
 loop-turns-init c = none-taken c.args.schedulers.now c.args.shared.now

@@ -1,7 +1,7 @@
 use Rattle.std.proofs.Common.{arith}
 use Rattle.std.proofs.lemmas.Int.{clamps}
 use Rattle.ea_given.proofs.Running.{stands-moves, stands-ready, turns-taken}
-use Rattle.ea_given.proofs.turns.take_some.Goals as goal
+use Rattle.ea_given.proofs.turns.step_some.Goals as goal
 
 pub step_upto-requires-clause-ready : goal.step_upto-requires-clause-ready
 step_upto-requires-clause-ready c =

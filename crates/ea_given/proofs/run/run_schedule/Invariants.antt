@@ -1,6 +1,6 @@
 use Rattle.std.specs.Prelude.{flat_map, replicate, take}
 use Rattle.ea_given.specs.Running.{AllTook}
-use Rattle.ea_given.proofs.run.take_schedule.Given as goal
+use Rattle.ea_given.proofs.run.run_schedule.Given as goal
 
 abbrev pub invariant-loop-turns : goal.invariant-loop-turns
 invariant-loop-turns l = AllTook
