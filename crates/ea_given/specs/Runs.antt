@@ -10,6 +10,7 @@ use Rattle.ea_laws.specs.InOrder.{Range}
 use Rattle.ea_machine.specs.Completion.{complete}
 use Rattle.ea_machine.specs.Nodes.{named_at, spot_named}
 use Rattle.ea_machine.specs.Setup.{Setup, setup_of}
+use Rattle.ea_machine.specs.State.{State}
 use Rattle.ea_machine.specs.Stops.{left_after, run_with_stops}
 use Rattle.ea_sched.specs.Acting.{is_ended}
 use Rattle.ea_given.specs.declared.run.GivenRun.{GivenRun}
@@ -53,6 +54,10 @@ HasCompleted = GoesOn complete
 -- whether the scheduler has ended after these turns
 abbrev pub ended_after : Setup → List ℕ → ℕ → Bool
 ended_after setup turns me = is_ended ((run_with_stops setup turns).actors me).stage
+
+-- how many entries its log has in a state: one for each operation that is done
+abbrev pub log_length : State → ℕ → ℕ
+log_length w me = length (w.actors me).log
 
 -- how many of its operations are done then
 abbrev pub done_after : Setup → List ℕ → ℕ → ℕ

@@ -22,11 +22,11 @@ use Rattle.ea_sched.specs.Acting.{is_ended}
 use Rattle.ea_given.specs.declared.run.GivenRun.{GivenRun}
 use Rattle.ea_given.specs.Running.{StandsAt, left_to}
 use Rattle.ea_given.specs.Runs.{HasScheduler, HasTaken, IsRun, StandsAfter, StaysInOperation}
-use Rattle.ea_given.specs.Runs.{Tells, done_after, ended_after, left_in}
+use Rattle.ea_given.specs.Runs.{Tells, done_after, ended_after, left_in, log_length}
 use Rattle.ea_sound.proofs.Stopping.{cut-none}
 use Rattle.ea_given.proofs.Growing.{same-going, same-log}
 use Rattle.ea_given.proofs.Running.{some-less, work-is}
-use Rattle.ea_recorded.specs.Order.{is_over, line_turns, log_length, operating, turns_in_order}
+use Rattle.ea_recorded.specs.Order.{is_over, line_turns, operating, turns_in_order}
 use Rattle.ea_recorded.specs.Running.{HasRun, HasRunAll, IsUnstopped}
 
 or-left : (a b : Bool) → (a || b) ≡ false → a ≡ false

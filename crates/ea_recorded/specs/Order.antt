@@ -1,14 +1,12 @@
 -- The turns in which lines are run one after another, each whole before the next one begins.
 use Rattle.std.specs.Prelude.{ℕ, zero, suc, nat_lt, Bool, true, false, ◌||◌, List, [], ◌∷◌}
-use Rattle.std.specs.Prelude.{◌++◌, length}
+use Rattle.std.specs.Prelude.{◌++◌}
 use Rattle.ea_machine.specs.Completion.{complete, work}
 use Rattle.ea_machine.specs.Machine.{run_on, start, step}
 use Rattle.ea_machine.specs.Setup.{Setup}
 use Rattle.ea_machine.specs.State.{State}
 use Rattle.ea_sched.specs.Acting.{is_ended}
-
-abbrev pub log_length : State → ℕ → ℕ
-log_length w me = length (w.actors me).log
+use Rattle.ea_given.specs.Runs.{log_length}
 
 -- whether the operation of a scheduler is over that was its next one when its log had that many
 -- entries: its log has grown, or it has ended

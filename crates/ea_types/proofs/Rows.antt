@@ -1,96 +1,22 @@
 -- Turns of one scheduler in a row in one type, more than one only within an operation.
-use Rattle.std.proofs.Common.{◌≡◌, ◌≢◌, ℕ, zero, suc, ◌+◌, ◌-◌, ◌<◌, ◌≤◌, List, [], ◌∷◌, ◌++◌, true}
-use Rattle.std.proofs.Common.{false, refl, sym, ap, ◌∙◌, subst, inl, inr, arith, length}
+use Rattle.std.proofs.Common.{◌≡◌, ◌≢◌, ℕ, zero, suc, ◌+◌, ◌<◌, ◌≤◌, List, [], ◌∷◌, ◌++◌, false}
+use Rattle.std.proofs.Common.{refl, sym, ap, ◌∙◌, subst, inl, inr, arith}
 use Rattle.std.specs.Prelude.{Bool, Some, nat_lt, replicate}
 use Rattle.std.specs.List.{range_with_len}
-use Rattle.std.proofs.lemmas.Bool.{cases_Bool, cases_eq}
-use Rattle.std.proofs.lemmas.List.{append_assoc, length_push}
-use Rattle.std.proofs.lemmas.List.{replicate-append-replicate}
-use Rattle.ea_machine.specs.Machine.{run, run_on, start, step}
+use Rattle.std.proofs.lemmas.Bool.{cases_eq}
+use Rattle.std.proofs.lemmas.List.{append_assoc}
+use Rattle.ea_machine.specs.Machine.{run_on, step}
 use Rattle.ea_machine.specs.Setup.{Setup}
 use Rattle.ea_machine.specs.State.{State}
-use Rattle.ea_sound.specs.Entries.{EntersOne}
-use Rattle.ea_sound.specs.Turns.{log_after}
 use Rattle.ea_sound.proofs.Totals.{put-here, put-other}
-use Rattle.ea_sound.proofs.TurnLists.{run-append, run-snoc, step-ended}
 use Rattle.ea_sched.specs.Acting.{is_ended}
+use Rattle.ea_given.specs.Runs.{log_length}
 use Rattle.ea_types.specs.Turning.{Standing, Types, all_work, ending, first_going, lines_after}
-use Rattle.ea_types.specs.Turning.{log_length}
 use Rattle.ea_types.specs.Turning.{own_by, own_if, own_on, turn_of, turned, turned_by, turned_in}
 use Rattle.ea_types.specs.Turning.{turned_on}
 use Rattle.ea_types.proofs.OwnRuns.{is-other, is-same}
-use Rattle.ea_types.proofs.Turns.{Fits, Lessens, ended-is, first-same, step-fits, step-less}
+use Rattle.ea_types.proofs.Turns.{Fits, Lessens, first-same, step-fits, step-less}
 use Rattle.ea_types.proofs.Turns.{turn-in}
-
--- a run of one type, in which a scheduler takes steps
-module _ (e : Setup) (enters : EntersOne e) (me : ℕ) where
-  one-grows : (L : List ℕ) → log_length (run e L) me ≤ log_length (step e (run e L) me) me
-  one-grows L = subst (λ (w : State). log_length (run e L) me ≤ log_length w me) (run-snoc e L me)
-      (elim (enters L me me) [
-        | inl same ↦ omega (arith, ap length same)
-        | inr more ↦ omega (
-          arith,
-          ap length more.1.1,
-          length_push (log_after e L me) more.1.0,
-        )
-      ])
-
-  -- its log grows
-  grows : (k : ℕ) (L : List ℕ)
-      → log_length (run e L) me ≤ log_length (run_on e (run e L) (replicate k me)) me
-  grows zero L = omega arith
-  grows (suc k) L = omega (
-    arith,
-    one-grows L,
-    subst (λ (w : State). log_length w me ≤ log_length (run_on e w (replicate k me)) me)
-        (run-snoc e L me) (grows k (L ++ me ∷ [])),
-  )
-
-  stays-ended : (k : ℕ) (w : State) → is_ended (w.actors me).stage ≡ true
-      → is_ended ((run_on e w (replicate k me)).actors me).stage ≡ true
-  stays-ended zero w ended = ended
-  stays-ended (suc k) w ended =
-      let same = step-ended e w me (ended-is (w.actors me).stage ended) in
-      ap (λ (v : State). is_ended ((run_on e v (replicate k me)).actors me).stage) same
-      ∙ stays-ended k w ended
-
-  -- where after so many steps its log is as before, and it hasn't ended, it was so all the time
-  module _ (L : List ℕ) (count : ℕ)
-      (log : log_length (run_on e (run e L) (replicate count me)) me ≡ log_length (run e L) me)
-      (going : is_ended ((run_on e (run e L) (replicate count me)).actors me).stage ≡ false)
-      (k : ℕ) (before : k < count) where
-    abbrev now : State
-    now = run_on e (run e L) (replicate k me)
-
-    rest : run_on e now (replicate (count - k) me) ≡ run_on e (run e L) (replicate count me)
-    rest = sym (run-append e (run e L) (replicate k me) (replicate (count - k) me))
-        ∙ ap (run_on e (run e L)) (replicate-append-replicate k (count - k) me
-        ∙ ap (λ n. replicate n me) (sum k count before))
-      where
-        sum : (k count : ℕ) → k < count → k + (count - k) ≡ count
-        sum k count before = omega (arith, before)
-
-    now-run : run e (L ++ replicate k me) ≡ now
-    now-run = run-append e (start e) L (replicate k me)
-
-    pub same-log : log_length now me ≡ log_length (run e L) me
-    same-log = omega (
-      arith,
-      log,
-      grows k L,
-      subst (λ (w : State). log_length w me ≤ log_length (run_on e w (replicate (count - k) me)) me)
-          now-run (grows (count - k) (L ++ replicate k me)),
-      ap (λ (w : State). log_length w me) rest,
-    )
-
-    pub same-going : is_ended (now.actors me).stage ≡ false
-    same-going = elim (cases_Bool (is_ended (now.actors me).stage)) [
-      | inl ended ↦
-          let then = ap (λ (w : State). is_ended (w.actors me).stage) (sym rest)
-          ∙ stays-ended (count - k) now ended in
-          absurd (let no : true ≡ false = sym then ∙ going in cc)
-      | inr is ↦ is
-    ]
 
 -- turns in a row
 module _ (t : Types) (me x : ℕ) where

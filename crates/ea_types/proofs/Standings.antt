@@ -17,17 +17,18 @@ use Rattle.ea_sound.proofs.TurnLists.{run-append}
 use Rattle.ea_sched.specs.Acting.{is_ended}
 use Rattle.ea_given.specs.declared.run.GivenRun.{GivenRun}
 use Rattle.ea_given.specs.Runs as one
-use Rattle.ea_given.specs.Runs.{done_after, ended_after}
+use Rattle.ea_given.specs.Runs.{done_after, ended_after, log_length}
+use Rattle.ea_given.proofs.Growing.{same-going, same-log}
 use Rattle.ea_types.specs.declared.given.TypedRun.{TypedRun}
 use Rattle.ea_types.specs.Courses.{types_of}
 use Rattle.ea_types.specs.Given.{HasGrown, HasScheduler, IsEnding, StandsAfter}
 use Rattle.ea_types.specs.Given.{left_after, parts_in}
-use Rattle.ea_types.specs.Turning.{Standing, Types, after_first, at_start, lines_after, log_length}
+use Rattle.ea_types.specs.Turning.{Standing, Types, after_first, at_start, lines_after}
 use Rattle.ea_types.specs.Turning.{own_turns, stands_after, turn_of, turned_on}
 use Rattle.ea_types.proofs.Ending.{start-fits, types-lessen}
 use Rattle.ea_types.proofs.OwnRuns.{are-own_runs}
 use Rattle.ea_types.proofs.Rows.{IsRow, grown_by, later, own-append, row-ending, row-lines}
-use Rattle.ea_types.proofs.Rows.{row-other_lines, row-others, row-own, same-going, same-log}
+use Rattle.ea_types.proofs.Rows.{row-other_lines, row-others, row-own}
 use Rattle.ea_types.proofs.Turns.{Fits, Lessens, turn-in, turned-append, turns-fit}
 
 -- where nobody stops, all turns are taken

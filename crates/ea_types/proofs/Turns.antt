@@ -21,8 +21,9 @@ use Rattle.ea_sound.proofs.TextTotals.{All-back}
 use Rattle.ea_sound.proofs.Totals.{put-here, put-other}
 use Rattle.ea_sound.proofs.TurnLists.{step-ended, step-other}
 use Rattle.ea_sched.specs.Acting.{is_ended}
+use Rattle.ea_given.specs.Runs.{log_length}
 use Rattle.ea_types.specs.Turning.{Standing, Types, after_by, after_first, all_work, first_going}
-use Rattle.ea_types.specs.Turning.{going_or, lines_after, log_length, turn_of, turned, turned_by}
+use Rattle.ea_types.specs.Turning.{going_or, lines_after, turn_of, turned, turned_by}
 use Rattle.ea_types.specs.Turning.{turned_in, turned_on}
 
 pub ended-is : (stage : Stage Content) → is_ended stage ≡ true → stage ≡ Ended

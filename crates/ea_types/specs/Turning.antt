@@ -1,7 +1,7 @@
 -- Turns of schedulers that have several allocator types: in which type each is a step, and the run
 -- of each type.
 use Rattle.std.specs.Prelude.{◌≡◌, ℕ, zero, suc, ◌<◌, nat_lt, ◌==◌, Bool, true, false}
-use Rattle.std.specs.Prelude.{List, [], ◌∷◌, ◌++◌, Option, None, Some, length, sum_by}
+use Rattle.std.specs.Prelude.{List, [], ◌∷◌, ◌++◌, Option, None, Some, sum_by}
 use Rattle.std.specs.List.{range_with_len}
 use Rattle.ea_machine.specs.declared.stages.Stage.TheVariants.{Ended}
 use Rattle.ea_machine.specs.Completion.{work}
@@ -10,6 +10,7 @@ use Rattle.ea_machine.specs.Setup.{Setup}
 use Rattle.ea_machine.specs.Shared.{put}
 use Rattle.ea_machine.specs.State.{State}
 use Rattle.ea_sched.specs.Acting.{is_ended}
+use Rattle.ea_given.specs.Runs.{log_length}
 
 -- what stays the same: how many types and schedulers there are, the setup of each type by its place
 -- among them, from 0 on, and of each scheduler the type of each of its lines, by that place
@@ -50,9 +51,6 @@ after_first x (y ∷ ys) = after_by (y == x) ys (after_first x ys)
 abbrev pub lines_after : Bool → ℕ → List ℕ → List ℕ
 lines_after true x lines = after_first x lines
 lines_after false x lines = lines
-
-abbrev pub log_length : State → ℕ → ℕ
-log_length w me = length (w.actors me).log
 
 module _ (t : Types) where
   -- the type in which a scheduler's next turn is: that of its present line; after its last line the
