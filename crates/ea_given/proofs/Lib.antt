@@ -3,3 +3,4 @@ pub mod Ends
 pub mod GivenRuns
 pub mod Growing
 pub mod NamesHeld
+pub mod Plain

@@ -5,28 +5,18 @@ use Rattle.ea_model.specs.declared.settings.Config.{Config}
 use Rattle.ea_model.specs.declared.trace.Mode.{Mode}
 use Rattle.ea_model.specs.declared.trace.Mode.TheVariants.{Threads, Schedule, Generated}
 use Rattle.ea_model.specs.declared.trace.Trace.{Trace}
-use Rattle.ea_model.specs.Settings.{region_pages, settings_of}
-use Rattle.ea_model.specs.Trace.{plain, plain_mode, stop_in}
-use Rattle.ea_model.proofs.Traces.{plain-texts}
+use Rattle.ea_model.specs.Trace.{plain, plain_mode}
 use Rattle.ea_machine.specs.Completion.{course_of, end_of}
 use Rattle.ea_machine.specs.Machine.{run}
-use Rattle.ea_machine.specs.Setup.{Setup, setup_of, text_for}
+use Rattle.ea_machine.specs.Setup.{Setup, setup_of}
 use Rattle.ea_instance.specs.declared.layouts.Layout.{Layout}
 use Rattle.ea_instance.specs.Layouts.{plain_layout}
 use Rattle.ea_outcome.specs.Layouts.{layouts_in}
-use Rattle.ea_given.specs.Layouts.{is_scheduled, layouts_of_run}
+use Rattle.ea_given.specs.Layouts.{layouts_of_run}
+use Rattle.ea_given.proofs.Plain.{same-setup}
 use Rattle.ea_hist.specs.Intervals.{counts}
 use Rattle.ea_hist.specs.Text.{blocks_in, counts_text, gaps_in, histograms_text, layout_text, sums}
 use Rattle.ea_hist.proofs.Counts.{counts-sums}
-
-same_setup : (c : Config) (t : Trace) → setup_of c (plain t) ≡ setup_of c t
-same_setup c t = ap (λ texts. record {
-  schedulers = c.schedulers;
-  settings = settings_of c t.letter;
-  pages = region_pages c;
-  texts = text_for texts;
-  stops = stop_in t.stops.items;
-}) (plain-texts t)
 
 same_course : (setup : Setup) (m : Mode) → course_of setup (plain_mode m) ≡ course_of setup m
 same_course setup Threads = refl
@@ -36,14 +26,9 @@ same_course setup (Generated seed count) = refl
 -- the run of a trace as a definition answers it ends with the same carriers
 pub plain-layouts : (c : Config) (t : Trace) → layouts_of_run c (plain t) ≡ layouts_of_run c t
 plain-layouts c t =
-    ap (λ setup. layouts_in setup (end_of setup (plain_mode t.mode))) (same_setup c t)
+    ap (λ setup. layouts_in setup (end_of setup (plain_mode t.mode))) (same-setup c t)
     ∙ ap (λ turns. layouts_in (setup_of c t) (run (setup_of c t) turns))
     (same_course (setup_of c t) t.mode)
-
-pub plain-scheduled : (m : Mode) → is_scheduled (plain_mode m) ≡ is_scheduled m
-plain-scheduled Threads = refl
-plain-scheduled (Schedule turns) = refl
-plain-scheduled (Generated seed count) = refl
 
 -- what is the same of a layout as a definition answers it is so of all
 same-all : (f : Layout → List ℕ) → ((l : Layout) → f (plain_layout l) ≡ f l) → (ls : List Layout)

@@ -20,13 +20,12 @@ use Rattle.ea_model.specs.declared.trace.Trace.{Trace}
 use Rattle.ea_model.specs.declared.trace.Turns.{Turns}
 use Rattle.ea_model.specs.Lists.{Items}
 use Rattle.ea_model.specs.Outcome.{logs_of, plain_outcome}
-use Rattle.ea_model.specs.Settings.{region_pages, settings_of}
-use Rattle.ea_model.specs.Trace.{listed, plain, plain_mode, stop_in, texts_of}
-use Rattle.ea_model.proofs.Traces.{plain-texts}
+use Rattle.ea_model.specs.Trace.{listed, plain, plain_mode, texts_of}
 use Rattle.ea_machine.specs.Outcome.{outcome}
-use Rattle.ea_machine.specs.Setup.{Setup, setup_of, text_for}
+use Rattle.ea_machine.specs.Setup.{Setup, setup_of}
 use Rattle.ea_report.specs.Text.{outcome_text}
 use Rattle.ea_table.specs.Threads.{IsOfRun}
+use Rattle.ea_given.proofs.Plain.{same-setup}
 use Rattle.ea_trace.specs.Language.{lines_of}
 use Rattle.ea_types.specs.Courses.{IsOwnCourse, lines_for, types_of}
 use Rattle.ea_types.specs.Given.{ArePrinted, parts_in}
@@ -39,15 +38,6 @@ use Rattle.ea_types.specs.Turning.{Types, complete, own_turns}
 use Rattle.ea_types.specs.declared.input.TypedInput.{TypedInput}
 
 -- the runs of the traces, and of those that a definition answers for them, are the same
-
-same-setup : (c : Config) (t : Trace) → setup_of c (plain t) ≡ setup_of c t
-same-setup c t = ap (λ texts. record {
-  schedulers = c.schedulers;
-  settings = settings_of c t.letter;
-  pages = region_pages c;
-  texts = text_for texts;
-  stops = stop_in t.stops.items;
-}) (plain-texts t)
 
 setups-at : (c : Config) (other : Trace) (ts : List Trace) (x : ℕ)
     → setup_of c (slice_index_or (map plain ts) x other) ≡ setup_of c (slice_index_or ts x other)

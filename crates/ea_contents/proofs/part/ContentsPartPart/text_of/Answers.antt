@@ -2,12 +2,13 @@ use Rattle.std.proofs.Common.{◌≡◌, ◌&&◌, true, map, sym, ap, subst, �
 use Rattle.std.specs.Prelude.{IsOkAnd}
 use Rattle.ea_sound.proofs.Protocols.{always-protocol}
 use Rattle.ea_trace.specs.Language.{no_stops}
+use Rattle.ea_given.proofs.Plain.{same-schedule}
 use Rattle.ea_contents.specs.Command.{IsContentsText}
 use Rattle.ea_contents.specs.Language.{is_run}
 use Rattle.ea_contents.specs.Script.{script_of, sections_of}
 use Rattle.ea_contents.specs.Text.{ran_text}
 use Rattle.ea_contents.proofs.Kept.{always-agrees}
-use Rattle.ea_contents.proofs.Printing.{contents-text, same-schedule}
+use Rattle.ea_contents.proofs.Printing.{contents-text}
 use Rattle.ea_contents.proofs.part.ContentsPartPart.text_of.Goals as goal
 
 pub returns-clause-text : goal.returns-clause-text

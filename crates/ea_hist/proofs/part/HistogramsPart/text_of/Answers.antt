@@ -2,9 +2,10 @@ use Rattle.std.proofs.Common.{◌≡◌, true, sym, ap, subst, ◌∙◌}
 use Rattle.std.specs.Prelude.{IsOkAnd}
 use Rattle.ea_sound.proofs.Protocols.{always-protocol}
 use Rattle.ea_given.specs.Layouts.{is_scheduled}
+use Rattle.ea_given.proofs.Plain.{same-schedule}
 use Rattle.ea_hist.specs.Language.{IsHistograms}
 use Rattle.ea_hist.specs.Text.{histograms_text}
-use Rattle.ea_hist.proofs.Traces.{plain-layouts, plain-scheduled, plain-text}
+use Rattle.ea_hist.proofs.Traces.{plain-layouts, plain-text}
 use Rattle.ea_hist.proofs.part.HistogramsPart.text_of.Goals as goal
 
 pub returns-clause-text : goal.returns-clause-text
@@ -15,7 +16,7 @@ returns-clause-text c =
     let text = c.in_ok-print_histograms.field-0.items in
     subst (λ read. IsOkAnd read (λ x. (is_scheduled x.mode ≡ true) × IsHistograms d x text))
     (sym c.in_ok-trace.ensures.given) (
-      plain-scheduled t.mode ∙ sym c.is_scheduled.ensures ∙ c.if-not-is_scheduled.false,
+      same-schedule t.mode ∙ sym c.is_scheduled.ensures ∙ c.if-not-is_scheduled.false,
       c.in_ok-print_histograms.ensures ∙ ap histograms_text c.as_slice.ensures
           ∙ sym (plain-text layouts) ∙ ap histograms_text c.in_ok-layouts.ensures
           ∙ ap histograms_text (sym (plain-layouts d t)),
