@@ -2,8 +2,7 @@
 use Rattle.std.proofs.Common.{◌≡◌, ◌≢◌, ◌⊎◌, ℕ, zero, suc, ◌+◌, ◌-◌, ◌<◌, ◌≤◌, List, [], ◌∷◌}
 use Rattle.std.proofs.Common.{◌++◌, true, refl, sym, ap, ◌∙◌, subst, inl, inr, arith, length}
 use Rattle.std.proofs.Common.{get_or, set}
-use Rattle.std.specs.Prelude.{Option, None, Some, drop, map, nat_lt, replicate}
-use Rattle.std.specs.Prelude.{slice_get}
+use Rattle.std.specs.Prelude.{None, Some, drop, map, nat_lt, replicate}
 use Rattle.std.specs.List.{range_with_len}
 use Rattle.std.proofs.lemmas.Bool.{cases_eq}
 use Rattle.std.proofs.lemmas.Grind.{get_or-set_at}
@@ -22,22 +21,21 @@ use Rattle.ea_machine.specs.Outcome.{outcome, outcome_with}
 use Rattle.ea_machine.specs.Setup.{Setup, setup_of}
 use Rattle.ea_machine.specs.Shared.{put}
 use Rattle.ea_machine.specs.State.{State}
-use Rattle.ea_machine.specs.Stops.{count_of, left_after, less, run_with_stops, stop_at, stop_of}
+use Rattle.ea_machine.specs.Stops.{count_of, less, run_with_stops, stop_at, stop_of}
 use Rattle.ea_sound.proofs.Totals.{put-here, put-other}
 use Rattle.ea_sound.proofs.TurnLists.{run-snoc, step-other}
 use Rattle.ea_sched.specs.Acting.{is_ended}
-use Rattle.ea_given.specs.Running.{StandsAt, left_to}
 use Rattle.ea_given.specs.Runs.{left_in}
 use Rattle.ea_sound.proofs.Stopping.{cut-none}
-use Rattle.ea_given.proofs.Running.{ended-is, work-is}
+use Rattle.ea_given.proofs.GivenRuns.{left-work}
+use Rattle.ea_given.proofs.Running.{ended-is}
 use Rattle.ea_contents.specs.declared.access.Access.{Access}
 use Rattle.ea_contents.specs.declared.access.AccessEntry.{AccessEntry}
 use Rattle.ea_contents.specs.declared.input.Placed.{Placed}
 use Rattle.ea_contents.specs.declared.playing.Play.{Play}
 use Rattle.ea_contents.specs.Entering.{entry_of, lists_by}
 use Rattle.ea_contents.specs.Model.{Moment, Script, advanced, done}
-use Rattle.ea_contents.specs.Model.{lists_after, past_after, play_on, turn}
-use Rattle.ea_contents.specs.Model.{waiting}
+use Rattle.ea_contents.specs.Model.{lists_after, past_after, play_on, turn, waiting}
 use Rattle.ea_contents.specs.Placing.{IsAt, first_of, next_at}
 use Rattle.ea_contents.specs.Playing.{HasMade, PlayHas, PlaysAs, TellsOf, turns_to}
 use Rattle.ea_contents.specs.Script.{list_for, script_of}
@@ -115,12 +113,6 @@ pub outcome-same : (e : Setup) → ((i : ℕ) → e.stops i ≡ None) → (xs ys
 outcome-same e none xs ys same =
     ap (outcome_with e (run e xs)) (stop-same e (run e xs) none xs ys)
     ∙ ap (λ w. outcome_with e w (stop_of e w ys)) same
-
-got : {A : Type 0} (P : Option A → Type 0) (xs : List A) (i : ℕ) → i < length xs
-    → ((d : A) → P (Some (get_or xs i d))) → P (slice_get xs i)
-got P [] i below each = absurd (omega (arith, below))
-got P (x ∷ xs) zero below each = each x
-got P (x ∷ xs) (suc i) below each = got P xs i (omega (arith, below)) each
 
 -- a play as it stands at a moment
 module _ (c : Config) (t : Trace) (ss : List (List Placed)) (m : Moment) (p : Play)
@@ -326,19 +318,8 @@ module _ (c : Config) (t : Trace) (ss : List (List Placed)) (m : Moment) (p : Pl
     all-taken = ap (run e) (cut-none e.stops no-stops at.taken)
 
     left-is : left_in i p.session.run ≡ work e m.state i
-    left-is =
-        let r = p.session.run in
-        let stands = at.session.run in
-        let back : (i - 1) + 1 ≡ i = omega (arith, mine.0) in
-        let below : i - 1 < length r.schedulers.items =
-        omega (arith, mine.0, mine.1, stands.schedulers.all) in
-        got (λ o. left_to o r.shared ≡ work e m.state i) r.schedulers.items (i - 1) below
-        (λ d.
-        let mate = get_or r.schedulers.items (i - 1) d in
-        sym (work-is c t i (left_after e at.taken i) mate (run_with_stops e at.taken)
-        (subst (λ k. StandsAt c t k (left_after e at.taken k) mate (run_with_stops e at.taken)) back
-        (stands.schedulers.each (i - 1) d below)) r.shared stands.shared)
-        ∙ ap (λ (w : State). work e w i) (all-taken ∙ sym at.state))
+    left-is = left-work c t at.taken p.session.run at.session.run i mine
+        ∙ ap (λ (w : State). work e w i) (all-taken ∙ sym at.state)
 
     pub turns-are : turns_to i p
         ≡ work e m.state i + (length (list_for ss i) - length (m.shown i))

@@ -1,7 +1,8 @@
 -- A run takes turns, goes on to its end, and is asked in between.
-use Rattle.std.proofs.Common.{◌≡◌, ℕ, ◌+◌, ◌-◌, ◌<◌, List, [], ◌++◌, length, get_or, sym, ap}
-use Rattle.std.proofs.Common.{subst, ◌∙◌, ◌⊎◌, inl, inr, arith, set, get_or-set_same, true}
-use Rattle.std.specs.Prelude.{IfOk, Option, Some, replicate}
+use Rattle.std.proofs.Common.{◌≡◌, ℕ, zero, suc, ◌+◌, ◌-◌, ◌<◌, List, [], ◌∷◌, ◌++◌, length}
+use Rattle.std.proofs.Common.{get_or, sym, ap, subst, ◌∙◌, ◌⊎◌, inl, inr, arith, set}
+use Rattle.std.proofs.Common.{get_or-set_same, true}
+use Rattle.std.specs.Prelude.{IfOk, Option, Some, replicate, slice_get}
 use Rattle.std.specs.Prelude.{Result, Ok, Err}
 use mathlib.Core.Path.{fun_ext}
 use Rattle.std.proofs.lemmas.List.{length-map}
@@ -14,7 +15,7 @@ use Rattle.ea_model.specs.Lists.{Items}
 use Rattle.ea_model.specs.Trace.{HasTexts, IsScheduler, IsValidTrace, texts_of}
 use Rattle.ea_machine.specs.declared.stages.Stage.TheVariants.{Ended}
 use Rattle.ea_machine.specs.Actor.{Actor}
-use Rattle.ea_machine.specs.Completion.{complete, completing, completion}
+use Rattle.ea_machine.specs.Completion.{complete, completing, completion, work}
 use Rattle.ea_machine.specs.Machine.{run, run_on, start}
 use Rattle.ea_machine.specs.Setup.{setup_of}
 use Rattle.ea_machine.specs.State.{State}
@@ -29,11 +30,12 @@ use Rattle.ea_sched.specs.Looks.{IsQuiet}
 use Rattle.ea_outcome.specs.Resting.{StandIn}
 use Rattle.ea_given.specs.declared.run.GivenRun.{GivenRun}
 use Rattle.ea_given.specs.Layouts.{is_scheduled}
-use Rattle.ea_given.specs.Running.{AllRanOut, AllStandAt, AllTook, SharesAt, Took}
+use Rattle.ea_given.specs.Running.{AllRanOut, AllStandAt, AllTook, SharesAt, StandsAt, Took}
+use Rattle.ea_given.specs.Running.{left_to}
 use Rattle.ea_given.specs.Runs.{HasCompleted, HasScheduler, HasTaken, IsRun, StandsAfter}
-use Rattle.ea_given.specs.Runs.{StaysInOperation}
+use Rattle.ea_given.specs.Runs.{StaysInOperation, left_in}
 use Rattle.ea_given.proofs.Ends.{one-taken, other-left, stand-in}
-use Rattle.ea_given.proofs.Running.{stands-going}
+use Rattle.ea_given.proofs.Running.{stands-going, work-is}
 
 -- what holds where both hold of an answer
 pub both-ok : {X Y : Type 0} (P Q R : X → Type 0) (r : Result X Y)
@@ -186,6 +188,29 @@ run-stands r c t turns at =
     (sym at.config)
     (subst (λ x. StandIn c x r.schedulers.items places r.shared.given taken) (sym at.trace)
     (stand-in c t r.schedulers.items r.shared turns at.shared at.schedulers))
+
+got : {A : Type 0} (P : Option A → Type 0) (xs : List A) (i : ℕ) → i < length xs
+    → ((d : A) → P (Some (get_or xs i d))) → P (slice_get xs i)
+got P [] i below each = absurd (omega (arith, below))
+got P (x ∷ xs) zero below each = each x
+got P (x ∷ xs) (suc i) below each = got P xs i (omega (arith, below)) each
+
+-- the work that a scheduler has left, as its fields tell it
+pub left-work : (c : Config) (t : Trace) (turns : List ℕ) (r : GivenRun) → StandsAfter c t turns r
+    → (me : ℕ) → IsScheduler c.schedulers me
+    → left_in me r ≡ work (setup_of c t) (run_with_stops (setup_of c t) turns) me
+left-work c t turns r at me has =
+    let e = setup_of c t in
+    let place : (me - 1) + 1 ≡ me = omega (arith, has.0) in
+    let below : me - 1 < length r.schedulers.items =
+    omega (arith, has.0, has.1, at.schedulers.all) in
+    got (λ o. left_to o r.shared ≡ work e (run_with_stops e turns) me) r.schedulers.items (me - 1)
+    below
+    (λ d.
+    let mate = get_or r.schedulers.items (me - 1) d in
+    sym (work-is c t me (left_after e turns me) mate (run_with_stops e turns)
+    (subst (λ i. StandsAt c t i (left_after e turns i) mate (run_with_stops e turns)) place
+    (at.schedulers.each (me - 1) d below)) r.shared at.shared))
 
 -- each scheduler has a text where the trace has a schedule
 pub scheduled-texts : (n : ℕ) (t : Trace) → is_scheduled t.mode ≡ true → IsValidTrace n t

@@ -1,31 +1,31 @@
 -- The turns of a line: those of its scheduler until its log has grown.
-use Rattle.std.proofs.Common.{◌≡◌, ◌≢◌, ℕ, zero, suc, ◌+◌, ◌-◌, ◌<◌, ◌≤◌, ◌||◌, Bool, true, false}
-use Rattle.std.proofs.Common.{List, [], ◌∷◌, ◌++◌, refl, sym, ap, ◌∙◌, subst, arith, length}
-use Rattle.std.specs.Prelude.{Option, Some, None, get_or, nat_lt, replicate, slice_get}
+use Rattle.std.proofs.Common.{◌≡◌, ◌≢◌, ℕ, zero, suc, ◌+◌, ◌<◌, ◌≤◌, ◌||◌, Bool, true, false}
+use Rattle.std.proofs.Common.{List, [], ◌∷◌, ◌++◌, refl, sym, ap, ◌∙◌, subst, arith}
+use Rattle.std.specs.Prelude.{None, nat_lt, replicate}
 use Rattle.std.proofs.lemmas.List.{append-nil, append_assoc}
 use Rattle.ea_model.specs.Content.{Content}
 use Rattle.ea_model.specs.declared.settings.Config.{Config}
 use Rattle.ea_model.specs.declared.trace.Trace.{Trace}
 use Rattle.ea_model.specs.Settings.{IsValidConfig}
-use Rattle.ea_model.specs.Trace.{IsValidTrace, stop_in}
+use Rattle.ea_model.specs.Trace.{IsScheduler, IsValidTrace, stop_in}
 use Rattle.ea_machine.specs.declared.stages.Stage.{Stage}
 use Rattle.ea_machine.specs.declared.stages.Stage.TheVariants.{Ended}
 use Rattle.ea_machine.specs.Completion.{work}
 use Rattle.ea_machine.specs.Machine.{IsReached, run, run_on, start, step}
 use Rattle.ea_machine.specs.Setup.{Setup, setup_of}
 use Rattle.ea_machine.specs.State.{State}
-use Rattle.ea_machine.specs.Stops.{left_after, run_with_stops}
+use Rattle.ea_machine.specs.Stops.{run_with_stops}
 use Rattle.ea_sound.proofs.Completing.{reached-step}
 use Rattle.ea_sound.proofs.Protocols.{always-protocol}
 use Rattle.ea_sound.proofs.TurnLists.{run-append}
 use Rattle.ea_sched.specs.Acting.{is_ended}
 use Rattle.ea_given.specs.declared.run.GivenRun.{GivenRun}
-use Rattle.ea_given.specs.Running.{StandsAt, left_to}
 use Rattle.ea_given.specs.Runs.{HasScheduler, HasTaken, IsRun, StandsAfter, StaysInOperation}
 use Rattle.ea_given.specs.Runs.{Tells, done_after, ended_after, left_in, log_length}
 use Rattle.ea_sound.proofs.Stopping.{cut-none}
 use Rattle.ea_given.proofs.Growing.{same-going, same-log}
-use Rattle.ea_given.proofs.Running.{some-less, work-is}
+use Rattle.ea_given.proofs.GivenRuns.{left-work}
+use Rattle.ea_given.proofs.Running.{some-less}
 use Rattle.ea_recorded.specs.Order.{is_over, line_turns, operating, turns_in_order}
 use Rattle.ea_recorded.specs.Running.{HasRun, HasRunAll, IsUnstopped}
 
@@ -52,12 +52,6 @@ operating-over : (e : Setup) (most done : ℕ) (w : State) (me : ℕ)
     → operating e most done w me true ≡ []
 operating-over e zero done w me = refl
 operating-over e (suc most) done w me = refl
-
-got : {A : Type 0} (P : Option A → Type 0) (xs : List A) (i : ℕ) → i < length xs
-    → ((d : A) → P (Some (get_or xs i d))) → P (slice_get xs i)
-got P [] i below each = absurd (omega (arith, below))
-got P (x ∷ xs) zero below each = each x
-got P (x ∷ xs) (suc i) below each = got P xs i (omega (arith, below)) each
 
 module _ (c : Config) (t : Trace) (config : IsValidConfig c)
     (valid : IsValidTrace c.schedulers t) where
@@ -205,28 +199,10 @@ module _ (c : Config) (t : Trace) (config : IsValidConfig c)
       -- the work that the scheduler has left, as its fields tell it
       pub left-is : HasScheduler me r → left_in me r ≡ work e w me
       left-is has =
-          let place : (me - 1) + 1 ≡ me = omega (arith, has.0) in
-          got (λ o. left_to o r.shared ≡ work e w me) r.schedulers.items (me - 1)
-          (omega (
-            arith,
-            has.0,
-            has.1,
-            ap (λ (x : Config). x.schedulers) at.config,
-            at.schedulers.all,
-          ))
-          (λ d.
-          let mate = get_or r.schedulers.items (me - 1) d in
-          sym (work-is c t me (left_after e turns me) mate (run_with_stops e turns)
-          (subst (λ i. StandsAt c t i (left_after e turns i) mate (run_with_stops e turns)) place
-          (at.schedulers.each (me - 1) d
-          (omega (
-            arith,
-            has.0,
-            has.1,
-            ap (λ (x : Config). x.schedulers) at.config,
-            at.schedulers.all,
-          )))) r.shared at.shared)
-          ∙ ap (λ (w : State). work e w me) (all-taken turns))
+          let there : IsScheduler c.schedulers me =
+          (has.0, omega (arith, has.1, ap (λ (x : Config). x.schedulers) at.config)) in
+          left-work c t turns r at me there
+          ∙ ap (λ (w : State). work e w me) (all-taken turns)
 
 -- a run goes on with a line
 pub no-stops : (c : Config) (t : Trace) (turns : List ℕ) (r : GivenRun) → StandsAfter c t turns r

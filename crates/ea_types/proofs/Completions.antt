@@ -1,26 +1,20 @@
 -- A run of several types goes on: turns after turns, one scheduler to its end, and all.
-use Rattle.std.proofs.Common.{◌≡◌, ℕ, zero, suc, ◌+◌, ◌-◌, ◌<◌, ◌≤◌, List, [], ◌∷◌, ◌++◌, refl}
-use Rattle.std.proofs.Common.{sym, ap}
+use Rattle.std.proofs.Common.{◌≡◌, ℕ, zero, suc, ◌+◌, ◌<◌, ◌≤◌, List, [], ◌∷◌, ◌++◌, refl, sym, ap}
 use Rattle.std.proofs.Common.{◌∙◌, subst, arith, length, get_or}
-use Rattle.std.specs.Prelude.{Option, Some, None, flat_map, replicate, slice_get, sum_by, take}
+use Rattle.std.specs.Prelude.{None, flat_map, replicate, sum_by, take}
 use Rattle.std.specs.List.{range_with_len}
 use Rattle.std.proofs.lemmas.Grind.{flat_map-append}
-use Rattle.std.proofs.lemmas.List.{append-nil, append_assoc, replicate-append-replicate}
-use Rattle.std.proofs.lemmas.List.{take_more}
+use Rattle.std.proofs.lemmas.List.{append-nil, append_assoc, replicate-append-replicate, take_more}
 use Rattle.std.proofs.lemmas.List.Sums.{sum_by-cons}
 use Rattle.ea_model.specs.declared.settings.Config.{Config}
 use Rattle.ea_model.specs.declared.trace.Trace.{Trace}
 use Rattle.ea_model.specs.declared.trace.Turns.{Turns}
-use Rattle.ea_machine.specs.Completion.{actor_rows, work}
-use Rattle.ea_machine.specs.Setup.{setup_of}
-use Rattle.ea_machine.specs.Shared.{Shared}
+use Rattle.ea_model.specs.Trace.{IsScheduler}
+use Rattle.ea_machine.specs.Completion.{work}
 use Rattle.ea_machine.specs.State.{State}
-use Rattle.ea_machine.specs.Stops.{left_after, run_with_stops}
-use Rattle.ea_mem_shared.specs.Memory.{Sharing}
-use Rattle.ea_sched.specs.declared.state.Scheduler.{Scheduler}
-use Rattle.ea_given.specs.Running.{SharesAt, StandsAt, alone_in, left_to, work_left}
 use Rattle.ea_given.specs.Runs as one
 use Rattle.ea_given.specs.Runs.{left_in}
+use Rattle.ea_given.proofs.GivenRuns.{left-work}
 use Rattle.ea_types.specs.declared.given.TypedRun.{TypedRun}
 use Rattle.ea_types.specs.Courses.{types_of}
 use Rattle.ea_types.specs.Given.{HasNone, HasScheduler, HasTaken, IsEnding, IsRun}
@@ -213,26 +207,6 @@ module _ (t : Types) where
   completes-last all turns first comes past =
       last-by comes.rest first all turns comes.many past comes.is
 
--- the work that a scheduler has left, as its fields tell it
-work-is : (c : Config) (t : Trace) (me : ℕ) (steps : Option ℕ) (s : Scheduler) (m : Sharing)
-    (w : State) → SharesAt c t m w → StandsAt c t me steps s w
-    → work (setup_of c t) w me ≡ work_left s m
-work-is c t me steps s m w shares at =
-    let e = setup_of c t in
-    let queues = ap (λ (x : Shared). length (x.queues me)) shares.shares in
-    let rests = ap (λ (x : Shared). length (x.rests me)) shares.shares in
-    let alone : work e w me ≡ work e (alone_in s m) me =
-    omega (arith, queues, rests, ap (actor_rows e) at.actor) in
-    alone ∙ ap (work e (alone_in s m)) (sym at.number)
-    ∙ ap (λ d. work (setup_of d t) (alone_in s m) s.number) (sym at.config)
-    ∙ ap (λ x. work (setup_of s.config x) (alone_in s m) s.number) (sym at.trace)
-
-got : {A : Type 0} (P : Option A → Type 0) (xs : List A) (i : ℕ) → i < length xs
-    → ((d : A) → P (Some (get_or xs i d))) → P (slice_get xs i)
-got P [] i below each = absurd (omega (arith, below))
-got P (x ∷ xs) zero below each = each x
-got P (x ∷ xs) (suc i) below each = got P xs i (omega (arith, below)) each
-
 summed : {A : Type 0} (f : A → ℕ) (g : ℕ → ℕ) (low : ℕ) (xs : List A)
     → ((k : ℕ) (d : A) → k < length xs → f (get_or xs k d) ≡ g (low + k))
     → sum_by f xs ≡ sum_by g (range_with_len low (length xs))
@@ -260,24 +234,14 @@ left-is c other traces parts turns r at me has =
     let t = types_of c other traces parts in
     let p = stands_after t turns in
     let g : ℕ → ℕ = λ x. work (t.setups x) (p.states x) me in
-    let place : (me - 1) + 1 ≡ me = omega (arith, has.0) in
     summed (left_in me) g 0 r.runs.items (λ x d below.
     let u = get_or r.runs.items x d in
     let there : x < length traces = omega (arith, below, at.types) in
     let mine = at.runs x d there in
     let here : 0 + x ≡ x = omega arith in
-    got (λ o. left_to o u.shared ≡ g x) u.schedulers.items (me - 1)
-    (omega (arith, has.0, has.1, at.schedulers, mine.schedulers.all))
-    (λ s.
-    let tr = get_or traces x other in
-    let e = setup_of c tr in
-    let own = own_turns t x turns in
-    let mate = get_or u.schedulers.items (me - 1) s in
-    sym (work-is c tr me (left_after e own me) mate u.shared (run_with_stops e own) mine.shared
-    (subst (λ i. StandsAt c tr i (left_after e own i) mate (run_with_stops e own)) place
-    (mine.schedulers.each (me - 1) s
-    (omega (arith, has.0, has.1, at.schedulers, mine.schedulers.all)))))
-    ∙ ap (λ (w : State). work (t.setups x) w me) (state-is c other traces parts turns r at x there))
+    let is : IsScheduler c.schedulers me = (has.0, omega (arith, has.1, at.schedulers)) in
+    left-work c (get_or traces x other) (own_turns t x turns) u mine me is
+    ∙ ap (λ (w : State). work (t.setups x) w me) (state-is c other traces parts turns r at x there)
     ∙ ap g (sym here))
     ∙ ap (λ n. sum_by g (range_with_len 0 n)) at.types
 
