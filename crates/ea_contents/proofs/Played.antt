@@ -2,13 +2,11 @@
 use Rattle.std.proofs.Common.{◌≡◌, ◌≢◌, ℕ, zero, suc, ◌+◌, ◌-◌, ◌<◌, ◌≤◌, List, [], ◌∷◌}
 use Rattle.std.proofs.Common.{◌++◌, Bool, true, false, refl, sym, ap, ◌∙◌, subst, arith, length}
 use Rattle.std.proofs.Common.{get_or}
-use Rattle.std.specs.Prelude.{◌&&◌, All, Option, None, Some, flat_map, is_none, is_some, map}
+use Rattle.std.specs.Prelude.{◌&&◌, All, Option, None, Some, is_none, is_some, map}
 use Rattle.std.specs.Prelude.{not, replicate, take}
 use Rattle.std.specs.List.{range_with_len}
-use Rattle.std.proofs.lemmas.Grind.{flat_map-append}
-use Rattle.std.proofs.lemmas.List.{append-nil, length-map, length-replicate}
-use Rattle.std.proofs.lemmas.List.{replicate-append-replicate}
-use Rattle.std.proofs.lemmas.List.{take_all, take_more}
+use Rattle.std.proofs.lemmas.List.{length-map, length-replicate, replicate-append-replicate}
+use Rattle.std.proofs.lemmas.List.{take_all}
 use Rattle.ea_model.specs.declared.outcome.Outcome.{Outcome}
 use Rattle.ea_model.specs.declared.settings.Config.{Config}
 use Rattle.ea_model.specs.declared.trace.Trace.{Trace}
@@ -22,6 +20,7 @@ use Rattle.ea_machine.specs.Outcome.{outcome}
 use Rattle.ea_machine.specs.Setup.{Setup, setup_of}
 use Rattle.ea_machine.specs.State.{State}
 use Rattle.ea_sched.specs.Acting.{is_ended}
+use Rattle.ea_given.proofs.Ends.{turns-more, turns_from}
 use Rattle.ea_given.proofs.Running.{ended-is}
 use Rattle.ea_contents.specs.declared.access.Access.{Access}
 use Rattle.ea_contents.specs.declared.access.AccessEntry.{AccessEntry}
@@ -157,20 +156,6 @@ taken-rest p q i k count few has rests is told first = λ c t ss m at.
   where
     sum : (k count : ℕ) → k ≤ count → count ≡ k + (count - k)
     sum k count few = omega (arith, few)
-
-abbrev pub turns_from : List Turns → List ℕ
-turns_from schedule = flat_map (λ t. replicate t.count t.scheduler) schedule
-
-turns-more : (schedule : List Turns) (i : ℕ) (d : Turns) → i < length schedule
-    → turns_from (take (i + 1) schedule)
-    ≡ turns_from (take i schedule)
-    ++ replicate (get_or schedule i d).count (get_or schedule i d).scheduler
-turns-more schedule i d within =
-    let x = get_or schedule i d in
-    let f : Turns → List ℕ = λ t. replicate t.count t.scheduler in
-    ap turns_from (take_more schedule i d within)
-    ∙ flat_map-append f (take i schedule) (x ∷ [])
-    ∙ ap (λ ys. turns_from (take i schedule) ++ ys) (append-nil (f x))
 
 -- those of one entry more of a schedule
 pub schedule-more : (p q r : Play) (schedule : List Turns) (i : ℕ) (d : Turns)

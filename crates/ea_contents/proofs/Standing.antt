@@ -1,18 +1,15 @@
 -- Sessions that stand after some turns: what their steps, writes and reads come to.
 use Rattle.std.proofs.Common.{◌≡◌, ℕ, ◌+◌, ◌-◌, ◌/◌, ◌<◌, ◌≤◌, Bool, true, false, List}
-use Rattle.std.proofs.Common.{[], drop, length, set, refl, sym, ap, ◌∙◌, subst}
-use Rattle.std.proofs.Common.{arith}
+use Rattle.std.proofs.Common.{[], drop, length, set, refl, sym, ap, ◌∙◌, subst, arith}
 use Rattle.std.specs.Prelude.{Option, Some, None, slice_index_or, get_or, not, ◌&&◌}
-use Rattle.std.proofs.lemmas.List.{length-map, length-set}
+use Rattle.std.proofs.lemmas.List.{length-set}
 use Rattle.std.proofs.lemmas.Slice.Zip.{AllZip-long}
 use Rattle.std.proofs.Math.Seq.{drop-append_seam}
 use Rattle.ea_model.specs.Lists.{Items}
 use Rattle.ea_model.specs.declared.operations.Op.{Op}
 use Rattle.ea_model.specs.declared.settings.Config.{Config}
 use Rattle.ea_model.specs.declared.trace.Trace.{Trace}
-use Rattle.ea_model.specs.declared.trace.Mode.{Mode}
-use Rattle.ea_model.specs.declared.trace.Mode.TheVariants as mode
-use Rattle.ea_model.specs.Trace.{HasTexts, stop_in, texts_of}
+use Rattle.ea_model.specs.Trace.{stop_in}
 use Rattle.ea_laws.specs.InOrder.{Range}
 use Rattle.ea_machine.specs.Machine.{run, start, step}
 use Rattle.ea_machine.specs.Setup.{Setup, setup_of}
@@ -27,20 +24,17 @@ use Rattle.ea_sound.proofs.Protocols.{protocol, rule-run}
 use Rattle.ea_sound.proofs.StartKept.{all-none}
 use Rattle.ea_outcome.specs.Extents.{range_if, range_of}
 use Rattle.ea_outcome.specs.declared.extents.Extent.{Extent}
-use Rattle.ea_given.specs.Layouts.{is_scheduled}
-use Rattle.ea_given.specs.Runs.{IsRun, StandsAfter, done_after, holds_after}
+use Rattle.ea_given.specs.Runs.{StandsAfter, done_after, holds_after}
 use Rattle.ea_sound.proofs.Stopping.{cut-none}
 use Rattle.ea_sched.proofs.Texts.{text-is}
 use Rattle.ea_contents.specs.Agreeing.{Agree, IsWhole}
 use Rattle.ea_contents.specs.declared.access.Making.{Making}
 use Rattle.ea_contents.specs.declared.session.Session.{Session}
 use Rattle.ea_contents.specs.Memory.{words_from, words_of}
-use Rattle.ea_contents.specs.Model.{holds, if_new, lists_written, made_by}
-use Rattle.ea_contents.specs.Model.{making_of}
+use Rattle.ea_contents.specs.Model.{holds, if_new, lists_written, made_by, making_of}
 use Rattle.ea_contents.specs.Paging.{HasWords}
 use Rattle.ea_contents.specs.declared.page.TheConstants.{PAGE_WORDS}
-use Rattle.ea_contents.specs.Sessions.{IsHeld, KeepsExtents, SessionHas}
-use Rattle.ea_contents.specs.Sessions.{StandsWith}
+use Rattle.ea_contents.specs.Sessions.{IsHeld, KeepsExtents, SessionHas, StandsWith}
 use Rattle.ea_contents.specs.Sessions.{if_absent, kept, yet_made_by}
 use Rattle.ea_contents.specs.Stored.{IsStored}
 use Rattle.ea_contents.proofs.Kept.{keeps-agreement, over-named}
@@ -57,17 +51,6 @@ module _ (c : Config) (t : Trace) (none : t.stops.items ≡ []) where
 
   pub unstopped : (turns : List ℕ) → run_with_stops e turns ≡ run e turns
   unstopped turns = ap (run e) (uncut turns)
-
--- a trace with a schedule has a text for each scheduler
-pub scheduled-texts : (n : ℕ) (t : Trace) → is_scheduled t.mode ≡ true
-    → HasTexts n t.mode (texts_of t) → length t.texts.items ≡ n
-scheduled-texts n t is has =
-    sym (length-map t.texts.items (λ (text : Items Op). text.items)) ∙ by t.mode is has where
-      by : (m : Mode) → is_scheduled m ≡ true → HasTexts n m (texts_of t)
-          → length (texts_of t) ≡ n
-      by mode.Threads is has = has
-      by (mode.Schedule turns) is has = has
-      by (mode.Generated seed count) is has = absurd cc
 
 -- before the first turn no block lies anywhere
 pub start-empty : (c : Config) (t : Trace) (name : ℕ) (r : Range)

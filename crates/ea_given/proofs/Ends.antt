@@ -87,7 +87,7 @@ abbrev pub turns_from : List Turns → List ℕ
 turns_from schedule = flat_map (λ t. replicate t.count t.scheduler) schedule
 
 -- one entry more of a schedule
-turns-more : (schedule : List Turns) (i : ℕ) (d : Turns) → i < length schedule
+pub turns-more : (schedule : List Turns) (i : ℕ) (d : Turns) → i < length schedule
     → turns_from (take (i + 1) schedule)
     ≡ turns_from (take i schedule)
     ++ replicate (get_or schedule i d).count (get_or schedule i d).scheduler

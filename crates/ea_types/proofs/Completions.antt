@@ -1,10 +1,9 @@
 -- A run of several types goes on: turns after turns, one scheduler to its end, and all.
 use Rattle.std.proofs.Common.{◌≡◌, ℕ, zero, suc, ◌+◌, ◌<◌, ◌≤◌, List, [], ◌∷◌, ◌++◌, refl, sym, ap}
 use Rattle.std.proofs.Common.{◌∙◌, subst, arith, length, get_or}
-use Rattle.std.specs.Prelude.{None, flat_map, replicate, sum_by, take}
+use Rattle.std.specs.Prelude.{None, replicate, sum_by, take}
 use Rattle.std.specs.List.{range_with_len}
-use Rattle.std.proofs.lemmas.Grind.{flat_map-append}
-use Rattle.std.proofs.lemmas.List.{append-nil, append_assoc, replicate-append-replicate, take_more}
+use Rattle.std.proofs.lemmas.List.{append-nil, append_assoc, replicate-append-replicate}
 use Rattle.std.proofs.lemmas.List.Sums.{sum_by-cons}
 use Rattle.ea_model.specs.declared.settings.Config.{Config}
 use Rattle.ea_model.specs.declared.trace.Trace.{Trace}
@@ -14,6 +13,7 @@ use Rattle.ea_machine.specs.Completion.{work}
 use Rattle.ea_machine.specs.State.{State}
 use Rattle.ea_given.specs.Runs as one
 use Rattle.ea_given.specs.Runs.{left_in}
+use Rattle.ea_given.proofs.Ends.{turns-more, turns_from}
 use Rattle.ea_given.proofs.GivenRuns.{left-work}
 use Rattle.ea_types.specs.declared.given.TypedRun.{TypedRun}
 use Rattle.ea_types.specs.Courses.{types_of}
@@ -99,21 +99,14 @@ idle-taken r me k none c other traces parts turns at =
     }
 
 -- one entry more of a schedule
-abbrev pub turns_from : List Turns → List ℕ
-turns_from schedule = flat_map (λ t. replicate t.count t.scheduler) schedule
-
 pub schedule-more : (r q s : TypedRun) (schedule : List Turns) (i : ℕ) (d : Turns)
     → i < length schedule → HasTaken (turns_from (take i schedule)) r q
     → HasTaken (replicate (get_or schedule i d).count (get_or schedule i d).scheduler) q s
     → HasTaken (turns_from (take (i + 1) schedule)) r s
 schedule-more r q s schedule i d below before more =
     let x = get_or schedule i d in
-    let f : Turns → List ℕ = λ t. replicate t.count t.scheduler in
-    subst (λ js. HasTaken js r s)
-    (sym (ap turns_from (take_more schedule i d below)
-    ∙ flat_map-append f (take i schedule) (x ∷ [])
-    ∙ ap (λ js. turns_from (take i schedule) ++ js) (append-nil (f x))))
-    (taken-more r q s (turns_from (take i schedule)) (f x) before more)
+    subst (λ js. HasTaken js r s) (sym (turns-more schedule i d below))
+    (taken-more r q s (turns_from (take i schedule)) (replicate x.count x.scheduler) before more)
 
 -- a scheduler goes on to its end: of the turns that it takes, those from here on are to come
 module _ (t : Types) (me : ℕ) where

@@ -6,13 +6,13 @@ use Rattle.ea_model.specs.Lists.{Items}
 use Rattle.ea_model.specs.Outcome.{plain_outcome}
 use Rattle.ea_model.specs.Trace.{IsScheduler}
 use Rattle.ea_machine.specs.Setup.{setup_of}
-use Rattle.ea_given.proofs.Ends.{turns-theirs}
+use Rattle.ea_given.proofs.Ends.{turns-theirs, turns_from}
 use Rattle.ea_contents.specs.declared.access.AccessEntry.{AccessEntry}
 use Rattle.ea_contents.specs.Model.{completing, opening}
 use Rattle.ea_contents.specs.Playing.{outcome_played, shown_played}
 use Rattle.ea_contents.specs.Script.{script_of, sections_of}
 use Rattle.ea_contents.proofs.Plays.{is-has}
-use Rattle.ea_contents.proofs.Played.{all-outcome, all-shown, goes-is, same-many, turns_from}
+use Rattle.ea_contents.proofs.Played.{all-outcome, all-shown, goes-is, same-many}
 use Rattle.ea_contents.proofs.playing.run_script.Goals as goal
 
 pub take_all-requires-clause-stands : goal.take_all-requires-clause-stands

@@ -1,9 +1,9 @@
 use Rattle.std.proofs.Common.{[], arith}
 use Rattle.std.proofs.lemmas.Result.{IfOk-weaker}
+use Rattle.ea_given.proofs.Ends.{turns_from}
 use Rattle.ea_types.specs.Courses.{types_of}
 use Rattle.ea_types.specs.Given.{parts_in}
 use Rattle.ea_types.specs.Turning.{complete}
-use Rattle.ea_types.proofs.Completions.{turns_from}
 use Rattle.ea_types.proofs.Finds.{no-trace}
 use Rattle.ea_types.proofs.given.run_scheduled.Goals as goal
 

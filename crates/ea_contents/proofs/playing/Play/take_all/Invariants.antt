@@ -1,5 +1,6 @@
 use Rattle.std.specs.Prelude.{take}
-use Rattle.ea_contents.proofs.Played.{Taken, turns_from}
+use Rattle.ea_given.proofs.Ends.{turns_from}
+use Rattle.ea_contents.proofs.Played.{Taken}
 use Rattle.ea_contents.proofs.playing.Play.take_all.Given as goal
 
 abbrev pub invariant-loop-turns : goal.invariant-loop-turns

@@ -1,6 +1,7 @@
 use Rattle.std.proofs.Common.{ℕ, length, refl, ap, arith}
 use Rattle.std.proofs.lemmas.List.{length-replicate}
-use Rattle.ea_contents.proofs.Standing.{scheduled-texts, start-empty}
+use Rattle.ea_given.proofs.GivenRuns.{scheduled-texts}
+use Rattle.ea_contents.proofs.Standing.{start-empty}
 use Rattle.ea_contents.proofs.session.Session.new.Goals as goal
 
 pub returns-clause-stands : goal.returns-clause-stands
@@ -10,7 +11,7 @@ returns-clause-stands c =
     record {
       run = c.in_ok-run.ensures;
       trace = refl;
-      texts = scheduled-texts d.schedulers t c.requires.schedule c.requires.trace.texts;
+      texts = scheduled-texts d.schedulers t c.requires.schedule c.requires.trace;
       stops = c.requires.unstopped;
       going = refl;
       whole = omega (

@@ -1,6 +1,6 @@
 use Rattle.std.specs.Prelude.{take}
+use Rattle.ea_given.proofs.Ends.{turns_from}
 use Rattle.ea_types.specs.Given.{HasTaken}
-use Rattle.ea_types.proofs.Completions.{turns_from}
 use Rattle.ea_types.proofs.given.TypedRun.take_all.Given as goal
 
 abbrev pub invariant-loop-turns : goal.invariant-loop-turns
