@@ -6,21 +6,23 @@ ghost use Rattle.ea_model.specs.Settings.{IsValidConfig};
 ghost use Rattle.ea_model.specs.declared.units.TheConstants.{MAX_INPUT};
 ghost use Rattle.ea_trace.specs.Language.{no_stops};
 ghost use Rattle.ea_contents.specs.Command.{contents_traces};
-ghost use Rattle.ea_given.specs.Layouts as layouts;
+ghost use Rattle.ea_given.specs.Layouts.{is_scheduled};
 
 use crate::playing::run_script;
 use crate::reader::read_contents;
 use crate::text::print_contents;
 use ea_frame::{Fault, Part};
-use ea_given::is_scheduled;
-use ea_model::{Config, List, Trace};
+use ea_model::{Config, List, Mode, Trace};
 use std::alloc::Global;
 
 /// Whether a trace has a schedule of its own, and no scheduler stops.
 fn is_run(trace: &Trace) -> bool
-    ensures { result ≡ (layouts.is_scheduled trace.now.mode && no_stops trace.now.stops.items) }
+    ensures { result ≡ (is_scheduled trace.now.mode && no_stops trace.now.stops.items) }
 {
-    is_scheduled(&trace.mode) && trace.stops.as_slice().is_empty()
+    match trace.mode {
+        Mode::Schedule { .. } => trace.stops.as_slice().is_empty(),
+        Mode::Threads | Mode::Generated { .. } => false,
+    }
 }
 
 /// What makes the text of an input with writes and reads.
