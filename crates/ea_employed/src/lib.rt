@@ -13,7 +13,6 @@ pub mod strategies;
 mod walks;
 
 pub use carriers::Carriers;
-pub use choice::Choice;
 pub use ea_cset::Found;
-pub use employed::{Employed, Extent};
+pub use employed::Employed;
 pub use singles::Singles;

@@ -97,7 +97,7 @@ impl Bins {
     }
 
     /// Adds a gap, where room was reserved. It takes no memory.
-    pub fn insert(&mut self, gap: BinnedGap)
+    pub(crate) fn insert(&mut self, gap: BinnedGap)
         requires room { 0 < self.old.room }
         requires address { All (λ g. g.address ≢ gap.address) self.old.held }
         requires size { self.old.fit ≢ Good → gap.size + 1 < 2 ^ 32 }
@@ -140,7 +140,7 @@ impl Bins {
     }
 
     /// Takes out a gap that is held.
-    pub fn remove(&mut self, gap: BinnedGap)
+    pub(crate) fn remove(&mut self, gap: BinnedGap)
         requires { IsTrue (is_held gap self.old.held) }
         ensures fit { self.new.fit ≡ self.old.fit }
         ensures held { self.new.held ≡ without address_of gap.address self.old.held }

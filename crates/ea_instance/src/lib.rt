@@ -8,7 +8,6 @@ mod layouts;
 mod lines;
 mod own;
 
-pub use ea_model::CarrierPlan;
 pub use held::Held;
 pub use instance::Instance;
 pub use layouts::{Layout, multi_layout};

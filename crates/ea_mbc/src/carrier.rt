@@ -353,14 +353,6 @@ impl Mbc {
         })
     }
 
-    /// The units of the gap that begins at `offset`.
-    pub fn gap_at(&self, offset: u32) -> u32
-        requires { 0 < gap_at (gaps_of self.now) offset }
-        ensures { result ≡ gap_at (gaps_of self.now) offset }
-    {
-        self.units.gap_at(offset)
-    }
-
     /// The block or the gap that begins at `offset`, read off its header.
     pub fn part_at(&self, offset: u32) -> Part
         requires { HasPart self.now.blocks (gaps_of self.now) offset }
@@ -376,15 +368,6 @@ impl Mbc {
         ensures { result ≡ gap_behind self.now offset }
     {
         self.units.gap_behind(offset)
-    }
-
-    /// The units of the gap directly before the block that begins at `offset`, 0 where there is
-    /// none.
-    pub fn gap_before(&self, offset: u32) -> u32
-        requires { IsSome (block_at self.now.blocks offset) }
-        ensures { result ≡ gap_before self.now offset }
-    {
-        self.units.gap_before(offset)
     }
 
     /// The units of its largest gap, or 0.

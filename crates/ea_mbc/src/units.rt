@@ -208,14 +208,6 @@ impl CarrierUnits {
         self.tags.header(offset).size
     }
 
-    /// The units of the gap that begins at the offset.
-    pub fn gap_at(&self, offset: u32) -> u32
-        requires { 0 < gap_at (gaps HEADER_UNITS self.now.end self.now.blocks) offset }
-        ensures { result ≡ gap_at (gaps HEADER_UNITS self.now.end self.now.blocks) offset }
-    {
-        self.tags.header(offset).size
-    }
-
     /// The block or the gap that begins at the offset.
     pub fn part_at(&self, offset: u32) -> Part
         requires { HasPart self.now.blocks (gaps HEADER_UNITS self.now.end self.now.blocks) offset }

@@ -6,4 +6,3 @@ mod decision;
 mod tests;
 
 pub use decision::decide;
-pub use ea_model::{Decision, Where};

@@ -1,7 +1,7 @@
 //! Each line of the decision, and each of its borders from both sides.
-use crate::Decision::{GrowHere, Move, ShrinkCarrier, ShrinkHere, Stay};
-use crate::{Decision, Where, decide};
-use ea_model::{MAX_UNITS, Settings, Strategy};
+use crate::decide;
+use ea_model::Decision::{GrowHere, Move, ShrinkCarrier, ShrinkHere, Stay};
+use ea_model::{Decision, MAX_UNITS, Settings, Strategy, Where};
 
 // A block above 65536 units has a singleblock carrier.
 const SETTINGS: Settings = Settings {

@@ -21,13 +21,9 @@ mod rule;
 mod tests;
 mod views;
 
-pub use calls::{Book, Call, MAX_SEGMENTS, Reply, Request};
+pub use calls::{Book, Call, Reply, Request};
 pub use closing::close;
 pub use desk::Desk;
-pub use held::Held;
-pub use ledger::Ledger;
 pub use making::{Start, make_passes};
 pub use pass::Pass;
 pub use playing::play;
-pub use rule::Locked;
-pub use views::{About, Seated, View};

@@ -332,7 +332,6 @@ impl Sides {
             Some(Block { name, size }),
             "{offset}"
         );
-        assert_eq!(rt; self.carrier.gap_before(offset), before, "{offset}");
         assert_eq!(rt; self.carrier.gap_behind(offset), after, "{offset}");
         assert_eq!(rt;
             block_tag(&self.carrier, offset),

@@ -3,11 +3,11 @@ ghost use Rattle.ea_model.specs.declared.units.TheConstants.{MAX_PAGES, MAX_SCHE
 ghost use Rattle.ea_model.specs.Settings.{IsValid};
 ghost use Rattle.ea_model.specs.Units.{pages_for};
 
-use ea_instance::{CarrierPlan, Instance};
+use ea_instance::Instance;
 use ea_mbc::Mbc;
 use ea_model::{
-    Block, CarrierLine, Figures, Inner, Kind, NUMBERS, NoCarrier, OutOfMemory, Place, Settings,
-    Spot, Standing, Strategy,
+    Block, CarrierLine, CarrierPlan, Figures, Inner, Kind, NUMBERS, NoCarrier, OutOfMemory, Place,
+    Settings, Spot, Standing, Strategy,
 };
 use std::alloc::Global;
 use std::process::Abort;

@@ -32,12 +32,9 @@ mod owners;
 mod tests;
 mod words;
 
-pub use nodes::{
-    BLOCK_KIND, CARRIER_KIND, CARRIER_SHIFT, CODED_UNITS, KINDS, MAX_CODED_CARRIER, MAX_CODED_NAME,
-    NAME_SHIFT, OFFSET_SHIFT, decode_node, encode_node,
-};
+pub use nodes::{decode_node, encode_node};
 pub use owners::{
-    ABSENT_STATE, BUSY_STATE, CODED_LARGEST, EMPLOYED_STATE, INSTANCE_SHIFT, LARGEST_SHIFT,
-    MAX_CODED_INSTANCE, POOLED_STATE, RETURNING_STATE, STATES, decode, encode,
+    BUSY_STATE, EMPLOYED_STATE, INSTANCE_SHIFT, LARGEST_SHIFT, MAX_CODED_INSTANCE, POOLED_STATE,
+    RETURNING_STATE, STATES, decode, encode,
 };
 pub use words::{NO_NODE, OLDEST};
