@@ -2,9 +2,9 @@
 use Rattle.std.proofs.Common.{◌≡◌, ◌≢◌, ℕ, ◌+◌, ◌<◌, ◌≤◌, List, [], ◌∷◌, ◌++◌, length, set, get_or}
 use Rattle.std.proofs.Common.{refl, sym, ap, ◌∙◌, inl, inr, arith, Option, Some, None}
 use Rattle.std.specs.Prelude.{slice_index}
-use Rattle.std.proofs.lemmas.Bool.{cases_eq, cases_lt}
+use Rattle.std.proofs.lemmas.Bool.{cases_lt}
 use Rattle.std.proofs.lemmas.List.{get_or-set_same, get_or-set_other, get_or_append_left}
-use Rattle.std.proofs.lemmas.List.{get_or_past, get_or_push, length_push, length-set}
+use Rattle.std.proofs.lemmas.List.{get_or_push, length_push, length-set}
 use Rattle.std.proofs.lemmas.List.Sums.{sum_by-set, sum_by_push}
 use Rattle.ea_sizemap.specs.Places.{AreFree, held_count, one_of}
 
@@ -32,17 +32,6 @@ held_count-take keys p k lt some =
 pub held_count-more : (keys : List (Option ℕ)) → held_count (keys ++ None ∷ []) ≡ held_count keys
 unfolding held_count
 held_count-more keys = omega (arith, sum_by_push one_of keys None)
-
-pub same-more : (keys : List (Option ℕ)) (q : ℕ)
-    → get_or (keys ++ None ∷ []) q None ≡ get_or keys q None
-same-more keys q = elim (cases_lt q (length keys)) [
-  | inl lt ↦ get_or_append_left keys (None ∷ []) None q lt
-  | inr le ↦ elim (cases_eq (length keys) q) [
-    | inl e ↦ get_or_push keys None None q e ∙ sym (get_or_past keys q None le)
-    | inr n ↦ get_or_past (keys ++ None ∷ []) q None (omega (arith, le, n, length_push keys None))
-        ∙ sym (get_or_past keys q None le)
-  ]
-]
 
 -- a place more, where none was free
 pub free-more : (keys : List (Option ℕ)) (place : ℕ) → place ≡ length keys → AreFree keys []
