@@ -17,14 +17,6 @@ use ea_instance::Instance;
 use ea_machine::{Gone, Named, Node, Route, Stage, Task, Why};
 use ea_model::{Entry, Reports, Spot, owner_of};
 
-/// The instance that employs the carrier with that number, which is at least 1: where carriers
-/// don't migrate, that is its owner.
-pub fn employer_of(carrier: u32) -> u32
-    ensures { result ≡ owner_of carrier }
-{
-    owner_of(carrier)
-}
-
 /// Releases the block at the spot; a carrier that it leaves without blocks, other than the main
 /// one, is deallocated.
 fn free_at(instance: &mut Instance, spot: Spot)
@@ -41,8 +33,9 @@ fn free_at(instance: &mut Instance, spot: Spot)
     }
 }
 
-/// Releases the block at the spot, if scheduler `me`, whose instance this is, employs its carrier;
-/// else nothing changes. Answers whether it does.
+/// Where carriers don't migrate, so that their owners employ them: releases the block at the spot,
+/// if scheduler `me`, whose instance this is, employs its carrier; else nothing changes. Answers
+/// whether it does.
 pub fn release(instance: &mut Instance, me: u32, spot: Spot) -> bool
     requires block { owner_of spot.carrier ≡ me
         → IsSome (block_in (employed instance.old) spot) }
@@ -54,7 +47,7 @@ pub fn release(instance: &mut Instance, me: u32, spot: Spot) -> bool
         → IfSome (content_of (employed (releasing_at instance.old spot)) spot.carrier)
         (λ c. c.kind ≡ Single → c.blocks ≡ []) }
 {
-    if employer_of(spot.carrier) != me {
+    if owner_of(spot.carrier) != me {
         return false;
     }
     free_at(instance, spot);
@@ -103,13 +96,13 @@ impl<'t> Scheduler<'t> {
         self.finish(entry_of(task, gone));
     }
 
-    /// The block goes to the queue of the instance that employs its carrier.
+    /// Where carriers don't migrate: the block goes to the queue of its carrier's owner.
     pub(crate) fn send(&mut self, hand: Named, why: Why)
         ensures actor { actor_of self.new ≡ walking.sent hand why (actor_of self.old) }
         ensures same { IsSame self.old self.new }
     {
         let Named { name, spot } = hand;
-        let to = employer_of(spot.carrier);
+        let to = owner_of(spot.carrier);
         self.stage = Stage::Routed {
             route: Route::Pushing {
                 node: Node::Block { name, spot },

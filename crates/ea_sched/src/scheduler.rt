@@ -116,7 +116,7 @@ impl<'t> Scheduler<'t> {
     }
 
     /// After how many steps it stopped; None exactly where it isn't stopped.
-    pub fn stopped_after(&self) -> Option<u32>
+    fn stopped_after(&self) -> Option<u32>
         ensures { stop_entries result ≡ stop_line self.now }
     {
         if self.stopped() {
@@ -147,7 +147,7 @@ impl<'t> Scheduler<'t> {
     }
 
     /// Whether it is stopped: its text isn't done, and no step is left until its stop.
-    pub fn stopped(&self) -> bool
+    fn stopped(&self) -> bool
         ensures { result ≡ is_stopped self.now }
     {
         !self.ended() && is_over(self.left)
