@@ -24,7 +24,7 @@ use Rattle.ea_machine.specs.State.{State}
 use Rattle.ea_machine.specs.Sums.{one_if, sum_over}
 use Rattle.ea_sound.specs.Present.{Rule}
 use Rattle.ea_sound.specs.Rule.{names_of}
-use Rattle.ea_sound.specs.Standing.{standing}
+use Rattle.ea_sound.specs.Standing.{standing_nodes}
 use Rattle.ea_sound.proofs.FewNodes.{alike_among}
 use Rattle.ea_sound.proofs.Global.{anywhere-only}
 use Rattle.ea_sound.proofs.NodeSpots.{most-one}
@@ -63,7 +63,7 @@ carrier-among c i [] = refl
 carrier-among c i (d ∷ nodes) = omega (arith, carrier-node c i d, carrier-among c i nodes)
 
 module _ (e : Setup) (w : State) (rule : Rule e w) where
-  pub standing-once : (node : Node) → standing e.schedulers node w.shared ≤ 1
+  pub standing-once : (node : Node) → standing_nodes e.schedulers node w.shared ≤ 1
   standing-once (Block n p) = omega (
     arith,
     rule.kept.names.balance (only n),

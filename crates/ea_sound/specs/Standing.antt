@@ -8,8 +8,9 @@ use Rattle.ea_machine.specs.Sums.{total}
 
 -- how many nodes of that name, or of that carrier, stand in queues and in what is left of walks, of
 -- that many schedulers
-abbrev pub standing : ℕ → Node → Shared → ℕ
-standing n node s = total (suc n) (alike_in node) s.queues + total (suc n) (alike_in node) s.rests
+abbrev pub standing_nodes : ℕ → Node → Shared → ℕ
+standing_nodes n node s = total (suc n) (alike_in node) s.queues
+    + total (suc n) (alike_in node) s.rests
 
 -- the node stands among these without being linked, and that is the next older one
 abbrev pub IsOlderIn : Node → Option Node → List Mark → Type 0

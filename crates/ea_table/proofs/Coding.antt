@@ -25,7 +25,7 @@ use Rattle.ea_machine.specs.Sums.{one_if, total}
 use Rattle.ea_machine.specs.Table.{effect, rest_after, rest_by}
 use Rattle.ea_sound.proofs.Asked.{unnamed-spot}
 use Rattle.ea_sound.proofs.Totals.{put-all, put-here, put-other, total-part, total-put}
-use Rattle.ea_sound.specs.Standing.{standing}
+use Rattle.ea_sound.specs.Standing.{standing_nodes}
 use Rattle.ea_word.specs.Codes.{code_of, head_code, link_code}
 use Rattle.ea_table.specs.declared.places.TheConstants.{HEAD_WORDS}
 use Rattle.ea_table.specs.Words.{AreFit, Codes, IsFit, IsWorded, LinksAre}
@@ -250,7 +250,7 @@ module _ (n g : ℕ) where
 
     -- a node is pushed
     pub codes-pushed : (me to : ℕ) (node : Node) → 1 ≤ to → to ≤ n → IsNode n g node
-        → standing n node s ≡ 0
+        → standing_nodes n node s ≡ 0
         → Codes n g (effect me (Push node to) s) (set ws (head_at to) (code_of node))
     unfolding effect
     codes-pushed me to node from most is none =
@@ -501,7 +501,7 @@ module _ (n g : ℕ) where
         still : (x : Node)
             → total (suc n) (alike_in x) (put s.queues to (link_in node (s.queues to)))
             + total (suc n) (alike_in x) (put s.rests to (link_in node (s.rests to))) ≡ 0
-            → standing n x s ≡ 0
+            → standing_nodes n x s ≡ 0
         still x z = omega (
           arith,
           z,

@@ -27,7 +27,7 @@ use Rattle.ea_sound.proofs.Calls as calls
 use Rattle.ea_sound.proofs.Asked.{named-spot}
 use Rattle.ea_sound.proofs.Protocols.{protocol}
 use Rattle.ea_sound.proofs.Totals.{total-none}
-use Rattle.ea_sound.specs.Standing.{standing}
+use Rattle.ea_sound.specs.Standing.{standing_nodes}
 use Rattle.ea_word.specs.Codes.{IsCodable, code_of}
 use Rattle.ea_table.specs.declared.views.View.{View}
 use Rattle.ea_table.specs.Ruling.{ReadsLink, acting, actor_in, setup_in}
@@ -41,7 +41,7 @@ use Rattle.ea_table.proofs.Laws.{worded}
 use Rattle.ea_table.proofs.Rows.{Fits, FitsWord}
 use Rattle.ea_sound.proofs.Wanting.{gives, links, pushes}
 
-none-standing : (n : ℕ) (x : Node) (s : Shared) → HasNoAlike x s → standing n x s ≡ 0
+none-standing : (n : ℕ) (x : Node) (s : Shared) → HasNoAlike x s → standing_nodes n x s ≡ 0
 none-standing n x s none = omega (
   arith,
   total-none (alike_in x) s.queues (suc n) (λ i l. none-alike x (s.queues i) (none i).0),

@@ -11,7 +11,7 @@ use Rattle.ea_machine.specs.Alike.{IsNode}
 use Rattle.ea_machine.specs.Nodes.{Mark, block_node, first_node, spot_named}
 use Rattle.ea_machine.specs.Owners.{CarrierAt, word_of}
 use Rattle.ea_machine.specs.Shared.{Shared}
-use Rattle.ea_sound.specs.Standing.{standing}
+use Rattle.ea_sound.specs.Standing.{standing_nodes}
 use Rattle.ea_table.specs.declared.places.TheConstants.{HEAD_WORDS}
 use Rattle.ea_word.specs.declared.words.TheConstants.{NO_NODE}
 use Rattle.ea_word.specs.Codes.{IsCodable, IsShown, code_of, head_code, link_code, owner_code}
@@ -68,7 +68,7 @@ module _ (n g : ℕ) where
         → slice_index ws (head_at i) ≡ head_code (first_node (s.queues i))
     pub queued : (i : ℕ) → LinksAre ws (s.queues i)
     pub rested : (i : ℕ) → LinksAre ws (s.rests i)
-    pub free : (node : Node) → IsNode n g node → standing n node s ≡ 0
+    pub free : (node : Node) → IsNode n g node → standing_nodes n node s ≡ 0
         → slice_index ws (link_at n g node) ≡ 0
     pub names : (name : ℕ) → 1 ≤ name → name ≤ g
         → slice_index ws (name_at n g name) ≡ given_code name (spot_named name s.given)
@@ -87,7 +87,7 @@ module _ (n g : ℕ) where
   pub record IsWorded (s : Shared) : Type 0 where
     pub queues : (i : ℕ) → AreFit (s.queues i)
     pub rests : (i : ℕ) → AreFit (s.rests i)
-    pub once : (node : Node) → standing n node s ≤ 1
+    pub once : (node : Node) → standing_nodes n node s ≤ 1
     pub nobody : (i : ℕ) → n < i → (s.queues i ≡ []) × (s.rests i ≡ [])
     pub given : All (λ x. IsFit (block_node x)) s.given
     pub owners : (number : ℕ) → IsShown (word_of (s.places number))
