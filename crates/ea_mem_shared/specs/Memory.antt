@@ -4,6 +4,7 @@ use Rattle.ea_machine.specs.declared.nodes.Named.{Named}
 use Rattle.ea_machine.specs.Nodes.{Mark}
 use Rattle.ea_machine.specs.Owners.{CarrierAt}
 use Rattle.ea_machine.specs.Shared.{Shared}
+use Rattle.ea_shared.specs.AtRest.{SharedAtRest}
 use Rattle.ea_shared.specs.Calls.{Told}
 use Rattle.ea_queues.specs.Chains.{marks_of}
 use Rattle.ea_mem_shared.specs.Places.{place_at}
@@ -37,4 +38,14 @@ told_of m = record {
   migrates = m.migrates;
   shared = Some (shared_of m);
   caller = None;
+}
+
+-- what it tells where nobody steps
+abbrev pub at_rest : Sharing → SharedAtRest
+at_rest m = record {
+  schedulers = m.schedulers;
+  greatest = m.greatest;
+  migrates = m.migrates;
+  places = place_at m.places;
+  named = m.given;
 }

@@ -233,19 +233,11 @@ impl<C: Carried + Drop> Shared for MemShared<C> {
 }
 
 impl<C: Carried + Drop> Rested for MemShared<C> {
-    ghost use Rattle.ea_mem_shared.specs.Memory.{shared_of};
+    ghost use Rattle.ea_mem_shared.specs.Memory.{at_rest};
 
     type Content = C;
 
-    ghost schedulers = { λ m. m.schedulers };
-
-    ghost greatest = { λ m. m.greatest };
-
-    ghost migrates = { λ m. m.migrates };
-
-    ghost places = { λ m. (shared_of m).places };
-
-    ghost named = { λ m. m.given };
+    ghost shared = { λ m. at_rest m };
 
     fn word(&self, carrier: u32) -> OwnerWord {
         self.places.word(carrier)

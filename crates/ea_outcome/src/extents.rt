@@ -44,13 +44,13 @@ fn extent_at<H: Rested<Content = Mbc>>(
     migrates: bool,
     spot: Spot,
 ) -> Option<Extent>
-    requires migrates { migrates ≡ H.migrates shared.now }
-    requires number { IsCarrier (H.schedulers shared.now) spot.carrier }
+    requires migrates { migrates ≡ (H.shared shared.now).migrates }
+    requires number { IsCarrier (H.shared shared.now).schedulers spot.carrier }
     requires fits { IfSome (range_at spot
-        (carrier_of migrates (H.places shared.now) schedulers.now spot.carrier))
+        (carrier_of migrates (H.shared shared.now).places schedulers.now spot.carrier))
         (λ r. r.first < 2 ^ 32) }
     ensures { range_if result ≡ range_at spot
-        (carrier_of migrates (H.places shared.now) schedulers.now spot.carrier) }
+        (carrier_of migrates (H.shared shared.now).places schedulers.now spot.carrier) }
 {
     let carrier = find(schedulers, shared, migrates, spot.carrier)?;
     extent_in(&carrier, spot)
@@ -69,13 +69,13 @@ pub fn extent_of<H: Rested<Content = Mbc>>(
 ) -> Extent
     requires config { IsValidConfig config }
     requires trace { IsValidTrace config.schedulers trace.now }
-    requires schedulers { H.schedulers shared.now ≡ config.schedulers }
-    requires migrates { H.migrates shared.now ≡ migration (setup_of config trace.now) }
-    requires stand { Stand config trace.now schedulers.now (H.places shared.now)
-        (H.named shared.now) }
-    requires named { IsNamed schedulers.now (H.named shared.now) spot }
-    ensures { LiesWhere config trace.now schedulers.now (H.places shared.now)
-        (H.named shared.now) spot (range_of result) }
+    requires schedulers { (H.shared shared.now).schedulers ≡ config.schedulers }
+    requires migrates { (H.shared shared.now).migrates ≡ migration (setup_of config trace.now) }
+    requires stand { Stand config trace.now schedulers.now (H.shared shared.now).places
+        (H.shared shared.now).named }
+    requires named { IsNamed schedulers.now (H.shared shared.now).named spot }
+    ensures { LiesWhere config trace.now schedulers.now (H.shared shared.now).places
+        (H.shared shared.now).named spot (range_of result) }
 {
     match extent_at(schedulers, shared, migrates(config, trace), spot) {
         Some(extent) => extent,

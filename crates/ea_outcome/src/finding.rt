@@ -77,10 +77,10 @@ fn home_at<'a, H: Rested<Content = Mbc>>(
     word: Standing,
     employer: u32,
 ) -> Option<Found<'a>>
-    requires migrates { H.migrates shared.now ≡ true }
-    requires number { IsCarrier (H.schedulers shared.now) number }
+    requires migrates { (H.shared shared.now).migrates ≡ true }
+    requires number { IsCarrier (H.shared shared.now).schedulers number }
     ensures { option_and_then (present_with number) result
-        ≡ found word employer (home_of (H.places shared.now number)) }
+        ≡ found word employer (home_of ((H.shared shared.now).places number)) }
 {
     match shared.home(number) {
         Some(carrier) => Some(Found {
@@ -100,10 +100,10 @@ pub fn find<'a, H: Rested<Content = Mbc>>(
     migrates: bool,
     number: u32,
 ) -> Option<Found<'a>>
-    requires migrates { migrates ≡ H.migrates shared.now }
-    requires number { IsCarrier (H.schedulers shared.now) number }
+    requires migrates { migrates ≡ (H.shared shared.now).migrates }
+    requires number { IsCarrier (H.shared shared.now).schedulers number }
     ensures { option_and_then (present_with number) result
-        ≡ carrier_of migrates (H.places shared.now) schedulers.now number }
+        ≡ carrier_of migrates (H.shared shared.now).places schedulers.now number }
 {
     if !migrates {
         return employed_at(schedulers, number, owner_of(number));

@@ -25,11 +25,11 @@ fn layout_at<H: Rested<Content = Mbc>>(
     migrates: bool,
     number: u32,
 ) -> Result<Option<Layout>, OutOfMemory>
-    requires migrates { migrates ≡ H.migrates shared.now }
-    requires number { IsCarrier (H.schedulers shared.now) number }
+    requires migrates { migrates ≡ (H.shared shared.now).migrates }
+    requires number { IsCarrier (H.shared shared.now).schedulers number }
     ensures { IfOk result (λ layout. option_map plain_layout layout
         ≡ option_map (λ p. layout_of p.content)
-        (carrier_of migrates (H.places shared.now) schedulers.now number)) }
+        (carrier_of migrates (H.shared shared.now).places schedulers.now number)) }
 {
     match find(schedulers, shared, migrates, number) {
         Some(carrier) => carrier.layout(alloc, number),
@@ -45,10 +45,10 @@ fn layouts_from<H: Rested<Content = Mbc>>(
     migrates: bool,
     numbers: u32,
 ) -> Result<List<Layout>, OutOfMemory>
-    requires migrates { migrates ≡ H.migrates shared.now }
-    requires numbers { numbers ≡ NUMBERS * H.schedulers shared.now }
+    requires migrates { migrates ≡ (H.shared shared.now).migrates }
+    requires numbers { numbers ≡ NUMBERS * (H.shared shared.now).schedulers }
     ensures { IfOk result (λ layouts. map plain_layout layouts.items
-        ≡ first_layouts migrates (H.places shared.now) schedulers.now numbers) }
+        ≡ first_layouts migrates (H.shared shared.now).places schedulers.now numbers) }
 {
     let mut layouts = List::new(alloc);
     for before in 0..numbers {
@@ -71,12 +71,12 @@ pub fn layouts_of<H: Rested<Content = Mbc>>(
 ) -> Result<List<Layout>, OutOfMemory>
     requires config { IsValidConfig config }
     requires trace { IsValidTrace config.schedulers trace.now }
-    requires schedulers { H.schedulers shared.now ≡ config.schedulers }
-    requires migrates { H.migrates shared.now ≡ migration (setup_of config trace.now) }
-    requires stand { Stand config trace.now schedulers.now (H.places shared.now)
-        (H.named shared.now) }
+    requires schedulers { (H.shared shared.now).schedulers ≡ config.schedulers }
+    requires migrates { (H.shared shared.now).migrates ≡ migration (setup_of config trace.now) }
+    requires stand { Stand config trace.now schedulers.now (H.shared shared.now).places
+        (H.shared shared.now).named }
     ensures { IfOk result (AreLayouts config trace.now schedulers.now
-        (H.places shared.now) (H.named shared.now)) }
+        (H.shared shared.now).places (H.shared shared.now).named) }
 {
     let numbers = NUMBERS * config.schedulers;
     layouts_from(alloc, schedulers, shared, migrates(config, trace), numbers)

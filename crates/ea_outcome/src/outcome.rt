@@ -41,10 +41,10 @@ fn line_at<H: Rested<Content = Mbc>>(
     migrates: bool,
     number: u32,
 ) -> Option<CarrierLine>
-    requires migrates { migrates ≡ H.migrates shared.now }
-    requires number { IsCarrier (H.schedulers shared.now) number }
+    requires migrates { migrates ≡ (H.shared shared.now).migrates }
+    requires number { IsCarrier (H.shared shared.now).schedulers number }
     ensures { result ≡ option_map line_of
-        (carrier_of migrates (H.places shared.now) schedulers.now number) }
+        (carrier_of migrates (H.shared shared.now).places schedulers.now number) }
 {
     match find(schedulers, shared, migrates, number) {
         Some(carrier) => carrier.line(number),
@@ -60,10 +60,10 @@ fn lines_of<H: Rested<Content = Mbc>>(
     migrates: bool,
     numbers: u32,
 ) -> Result<List<CarrierLine>, OutOfMemory>
-    requires migrates { migrates ≡ H.migrates shared.now }
-    requires numbers { numbers ≡ NUMBERS * H.schedulers shared.now }
+    requires migrates { migrates ≡ (H.shared shared.now).migrates }
+    requires numbers { numbers ≡ NUMBERS * (H.shared shared.now).schedulers }
     ensures { IfOk result (λ lines. lines.items
-        ≡ first_lines migrates (H.places shared.now) schedulers.now numbers) }
+        ≡ first_lines migrates (H.shared shared.now).places schedulers.now numbers) }
 {
     let mut lines = List::new(alloc);
     for before in 0..numbers {
@@ -127,13 +127,13 @@ pub fn outcome_of<H: Rested<Content = Mbc>>(
 ) -> Result<Outcome, OutOfMemory>
     requires config { IsValidConfig config }
     requires trace { IsValidTrace config.schedulers trace.now }
-    requires schedulers { H.schedulers shared.now ≡ config.schedulers }
-    requires migrates { H.migrates shared.now ≡ migration (setup_of config trace.now) }
-    requires greatest { trace.now.greatest ≡ H.greatest shared.now }
-    requires stand { Stand config trace.now schedulers.items (H.places shared.now)
-        (H.named shared.now) }
+    requires schedulers { (H.shared shared.now).schedulers ≡ config.schedulers }
+    requires migrates { (H.shared shared.now).migrates ≡ migration (setup_of config trace.now) }
+    requires greatest { trace.now.greatest ≡ (H.shared shared.now).greatest }
+    requires stand { Stand config trace.now schedulers.items (H.shared shared.now).places
+        (H.shared shared.now).named }
     ensures { IfOk result (IsOutcome config trace.now schedulers.entry.items
-        (H.places shared.now) (H.named shared.now)) }
+        (H.shared shared.now).places (H.shared shared.now).named) }
 {
     let on = migrates(config, trace);
     let numbers = NUMBERS * config.schedulers;

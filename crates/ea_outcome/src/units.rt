@@ -20,11 +20,11 @@ fn units_at<H: Rested<Content = Mbc>>(
     migrates: bool,
     spot: Spot,
 ) -> u64
-    requires schedulers { H.schedulers shared.now ≡ length schedulers.now }
-    requires migrates { migrates ≡ H.migrates shared.now }
-    requires block { HasBlock migrates (H.places shared.now) schedulers.now spot }
+    requires schedulers { (H.shared shared.now).schedulers ≡ length schedulers.now }
+    requires migrates { migrates ≡ (H.shared shared.now).migrates }
+    requires block { HasBlock migrates (H.shared shared.now).places schedulers.now spot }
     ensures units { result
-        ≡ resting.units_at migrates (H.places shared.now) schedulers.now spot }
+        ≡ resting.units_at migrates (H.shared shared.now).places schedulers.now spot }
     ensures small { result < 2 ^ 32 }
 {
     let Some(carrier) = find(schedulers, shared, migrates, spot.carrier) else {
@@ -43,13 +43,13 @@ fn units_of<H: Rested<Content = Mbc>>(
     migrates: bool,
     spots: &[Option<Spot>],
 ) -> u64
-    requires schedulers { H.schedulers shared.now ≡ length schedulers.now }
-    requires migrates { migrates ≡ H.migrates shared.now }
+    requires schedulers { (H.shared shared.now).schedulers ≡ length schedulers.now }
+    requires migrates { migrates ≡ (H.shared shared.now).migrates }
     requires group { length spots.now ≤ GROUP }
     requires blocks { All (λ s. IfSome s
-        (HasBlock migrates (H.places shared.now) schedulers.now)) spots.now }
+        (HasBlock migrates (H.shared shared.now).places schedulers.now)) spots.now }
     ensures units { result ≡ sum_by (λ s. option_map_or
-        (resting.units_at migrates (H.places shared.now) schedulers.now) s 0) spots.now }
+        (resting.units_at migrates (H.shared shared.now).places schedulers.now) s 0) spots.now }
     ensures small { result < 2 ^ 41 }
 {
     let mut units = 0;
@@ -68,11 +68,12 @@ fn units_held<H: Rested<Content = Mbc>>(
     migrates: bool,
     names: &Names,
 ) -> u64
-    requires schedulers { H.schedulers shared.now ≡ length schedulers.now }
-    requires migrates { migrates ≡ H.migrates shared.now }
-    requires blocks { HaveBlocks migrates (H.places shared.now) schedulers.now names.now.held }
+    requires schedulers { (H.shared shared.now).schedulers ≡ length schedulers.now }
+    requires migrates { migrates ≡ (H.shared shared.now).migrates }
+    requires blocks { HaveBlocks migrates (H.shared shared.now).places schedulers.now
+        names.now.held }
     ensures { result
-        ≡ resting.units_named migrates (H.places shared.now) schedulers.now names.now.held }
+        ≡ resting.units_named migrates (H.shared shared.now).places schedulers.now names.now.held }
 {
     let mut units = 0;
     let groups = names.groups();
@@ -89,14 +90,15 @@ fn units_given<H: Rested<Content = Mbc>>(
     migrates: bool,
     greatest: u32,
 ) -> u64
-    requires schedulers { H.schedulers shared.now ≡ length schedulers.now }
-    requires migrates { migrates ≡ H.migrates shared.now }
-    requires greatest { greatest ≡ H.greatest shared.now }
-    requires given { AreGiven greatest (H.named shared.now) }
-    requires blocks { HaveBlocks migrates (H.places shared.now) schedulers.now
-        (H.named shared.now) }
+    requires schedulers { (H.shared shared.now).schedulers ≡ length schedulers.now }
+    requires migrates { migrates ≡ (H.shared shared.now).migrates }
+    requires greatest { greatest ≡ (H.shared shared.now).greatest }
+    requires given { AreGiven greatest (H.shared shared.now).named }
+    requires blocks { HaveBlocks migrates (H.shared shared.now).places schedulers.now
+        (H.shared shared.now).named }
     ensures { result
-        ≡ resting.units_named migrates (H.places shared.now) schedulers.now (H.named shared.now) }
+        ≡ resting.units_named migrates (H.shared shared.now).places schedulers.now
+        (H.shared shared.now).named }
 {
     let mut units = 0;
     for before in 0..greatest {
@@ -114,15 +116,17 @@ pub fn live_units<H: Rested<Content = Mbc>>(
     migrates: bool,
     greatest: u32,
 ) -> u64
-    requires schedulers { H.schedulers shared.now ≡ length schedulers.now }
-    requires migrates { migrates ≡ H.migrates shared.now }
-    requires greatest { greatest ≡ H.greatest shared.now }
-    requires given { AreGiven greatest (H.named shared.now) }
-    requires live { AreLive migrates (H.places shared.now) schedulers.now (H.named shared.now) }
-    requires fits { resting.live_units migrates (H.places shared.now) schedulers.now
-        (H.named shared.now) < 2 ^ 64 }
+    requires schedulers { (H.shared shared.now).schedulers ≡ length schedulers.now }
+    requires migrates { migrates ≡ (H.shared shared.now).migrates }
+    requires greatest { greatest ≡ (H.shared shared.now).greatest }
+    requires given { AreGiven greatest (H.shared shared.now).named }
+    requires live { AreLive migrates (H.shared shared.now).places schedulers.now
+        (H.shared shared.now).named }
+    requires fits { resting.live_units migrates (H.shared shared.now).places schedulers.now
+        (H.shared shared.now).named < 2 ^ 64 }
     ensures { result
-        ≡ resting.live_units migrates (H.places shared.now) schedulers.now (H.named shared.now) }
+        ≡ resting.live_units migrates (H.shared shared.now).places schedulers.now
+        (H.shared shared.now).named }
 {
     let mut units = units_given(schedulers, shared, migrates, greatest);
     for scheduler in schedulers {

@@ -114,16 +114,14 @@ impl<'a> Still<'a> {
 impl<'a> Rested for Still<'a> {
     type Content = Mbc;
 
-    ghost schedulers = { λ s. s.schedulers };
-
-    ghost greatest = { λ s. s.greatest };
-
-    ghost migrates = { λ s. s.migrates };
-
-    ghost places = { λ s. places_in s.schedulers s.greatest (slots_items s.closed.now.words)
-        (slots_items s.closed.now.slots) };
-
-    ghost named = { λ s. s.given.held };
+    ghost shared = { λ s. record {
+      schedulers = s.schedulers;
+      greatest = s.greatest;
+      migrates = s.migrates;
+      places = places_in s.schedulers s.greatest (slots_items s.closed.now.words)
+          (slots_items s.closed.now.slots);
+      named = s.given.held;
+    } };
 
     fn word(&self, carrier: u32) -> OwnerWord {
         let place = owner_place(self.schedulers, self.greatest, carrier);

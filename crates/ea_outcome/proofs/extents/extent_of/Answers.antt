@@ -9,8 +9,8 @@ extent_at-requires-clause-number g c =
     let (name, has) = c.requires.named in
     let number = has-carrier c.args.config c.args.trace.now c.requires.config c.requires.trace
     c.migrates.result c.migrates.ensures c.args.schedulers.now
-    (g.H.Rested.places c.args.shared.now) (g.H.Rested.named c.args.shared.now) turns stand name
-    c.args.spot has in
+    (g.H.Rested.shared c.args.shared.now).places (g.H.Rested.shared c.args.shared.now).named
+    turns stand name c.args.spot has in
     (number.0, omega (arith, number.1, c.requires.schedulers))
 
 pub extent_at-requires-clause-fits : goal.extent_at-requires-clause-fits
@@ -19,8 +19,8 @@ extent_at-requires-clause-fits g c =
     let (name, has) = c.requires.named in
     range-fits c.args.config c.args.trace.now c.requires.config c.requires.trace
     c.migrates.result c.migrates.ensures c.args.schedulers.now
-    (g.H.Rested.places c.args.shared.now) (g.H.Rested.named c.args.shared.now) turns stand name
-    c.args.spot has
+    (g.H.Rested.shared c.args.shared.now).places (g.H.Rested.shared c.args.shared.now).named
+    turns stand name c.args.spot has
 
 pub unreachable-requires : goal.unreachable-requires
 unreachable-requires g c =
@@ -28,14 +28,14 @@ unreachable-requires g c =
     let (name, has) = c.requires.named in
     range-there c.args.config c.args.trace.now c.requires.config c.requires.trace
     c.migrates.result c.migrates.ensures c.args.schedulers.now
-    (g.H.Rested.places c.args.shared.now) (g.H.Rested.named c.args.shared.now) turns stand name
-    c.args.spot has
+    (g.H.Rested.shared c.args.shared.now).places (g.H.Rested.shared c.args.shared.now).named
+    turns stand name c.args.spot has
     (sym c.extent_at.ensures ∙ ap range_if c.in-None.is)
 
 pub returns : goal.returns
 returns g c = λ turns stand name has.
     lies-there c.args.config c.args.trace.now c.requires.config c.requires.trace
     c.migrates.result c.migrates.ensures c.args.schedulers.now
-    (g.H.Rested.places c.args.shared.now) (g.H.Rested.named c.args.shared.now) turns stand name
-    c.args.spot has (range_of c.in-Some.extent)
+    (g.H.Rested.shared c.args.shared.now).places (g.H.Rested.shared c.args.shared.now).named
+    turns stand name c.args.spot has (range_of c.in-Some.extent)
     (sym (ap range_if c.in-Some.is) ∙ c.extent_at.ensures)

@@ -6,7 +6,7 @@ use Rattle.ea_outcome.proofs.layouts.layouts_from.Goals.{in-Some+in_ok-push, in_
 
 pub loop-before-preserved : goal.loop-before-preserved
 loop-before-preserved g c =
-    let places = g.H.Rested.places c.args.shared.now in
+    let places = (g.H.Rested.shared c.args.shared.now).places in
     let ss = c.args.schedulers.now in
     let l = c.loop-before in
     let found = c.in_ok-layout.field-0 in

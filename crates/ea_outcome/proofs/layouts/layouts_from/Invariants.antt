@@ -5,4 +5,4 @@ use Rattle.ea_outcome.proofs.layouts.layouts_from.Given as goal
 
 abbrev pub invariant-loop-before : goal.invariant-loop-before
 invariant-loop-before g l = map plain_layout l.layouts.items
-    ≡ first_layouts l.migrates (g.H.Rested.places l.shared) l.schedulers l.before
+    ≡ first_layouts l.migrates (g.H.Rested.shared l.shared).places l.schedulers l.before

@@ -7,5 +7,6 @@ pub returns : goal.returns
 returns g c = IfOk-weaker c.layouts_from.result _ _ (λ ls found. λ turns stand.
     found ∙ layouts-printed c.args.config c.args.trace.now c.requires.config c.requires.trace
     c.migrates.result c.migrates.ensures c.args.schedulers.now
-    (g.H.Rested.places c.args.shared.now) (g.H.Rested.named c.args.shared.now) turns stand)
+    (g.H.Rested.shared c.args.shared.now).places (g.H.Rested.shared c.args.shared.now).named
+    turns stand)
     c.layouts_from.ensures

@@ -5,7 +5,7 @@ use Rattle.ea_outcome.proofs.outcome.lines_of.Goals.{in-Some+in_ok-push, in_defa
 
 pub loop-before-preserved : goal.loop-before-preserved
 loop-before-preserved g c =
-    let places = g.H.Rested.places c.args.shared.now in
+    let places = (g.H.Rested.shared c.args.shared.now).places in
     let ss = c.args.schedulers.now in
     let l = c.loop-before in
     elim c.match-line_at.branch [

@@ -4,4 +4,4 @@ use Rattle.ea_outcome.proofs.outcome.lines_of.Given as goal
 
 abbrev pub invariant-loop-before : goal.invariant-loop-before
 invariant-loop-before g l = l.lines.items
-    ≡ first_lines l.migrates (g.H.Rested.places l.shared) l.schedulers l.before
+    ≡ first_lines l.migrates (g.H.Rested.shared l.shared).places l.schedulers l.before

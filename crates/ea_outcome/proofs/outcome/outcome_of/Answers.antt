@@ -15,11 +15,12 @@ units_of-units-requires g c =
     let (w, stand) = c.requires.stand in
     let parts = their-parts c.args.config c.args.trace.now
     c.requires.config c.requires.trace c.migrates-on.result
-    c.migrates-on.ensures c.args.schedulers.items (g.H.Rested.places c.args.shared.now)
-    (g.H.Rested.named c.args.shared.now) w stand
+    c.migrates-on.ensures c.args.schedulers.items (g.H.Rested.shared c.args.shared.now).places
+    (g.H.Rested.shared c.args.shared.now).named w stand
     c.as_slice.result.now c.as_slice.ensures c.in_ok-carriers.carriers.items
-    c.in_ok-carriers.ensures (live_units c.migrates-on.result (g.H.Rested.places c.args.shared.now)
-    c.args.schedulers.items (g.H.Rested.named c.args.shared.now)) refl in
+    c.in_ok-carriers.ensures (live_units c.migrates-on.result
+    (g.H.Rested.shared c.args.shared.now).places c.args.schedulers.items
+    (g.H.Rested.shared c.args.shared.now).named) refl in
     omega (arith, ap length c.as_slice-2.ensures, parts.few)
 
 pub live_units-live-requires-clause-schedulers : goal.live_units-live-requires-clause-schedulers
@@ -28,39 +29,40 @@ live_units-live-requires-clause-schedulers g c =
     c.requires.schedulers
     ∙ sym (many-schedulers c.args.config c.args.trace.now
     c.requires.config c.requires.trace c.migrates-on.result
-    c.migrates-on.ensures c.args.schedulers.items (g.H.Rested.places c.args.shared.now)
-    (g.H.Rested.named c.args.shared.now) w stand)
+    c.migrates-on.ensures c.args.schedulers.items (g.H.Rested.shared c.args.shared.now).places
+    (g.H.Rested.shared c.args.shared.now).named w stand)
     ∙ sym (ap length c.as_slice-3.ensures)
 
 pub live_units-live-requires-clause-given : goal.live_units-live-requires-clause-given
 live_units-live-requires-clause-given g c =
     let (w, stand) = c.requires.stand in
     are-given c.args.config c.args.trace.now c.requires.config c.requires.trace c.migrates-on.result
-    c.migrates-on.ensures c.args.schedulers.items (g.H.Rested.places c.args.shared.now)
-    (g.H.Rested.named c.args.shared.now) w stand
+    c.migrates-on.ensures c.args.schedulers.items (g.H.Rested.shared c.args.shared.now).places
+    (g.H.Rested.shared c.args.shared.now).named w stand
 
 pub live_units-live-requires-clause-live : goal.live_units-live-requires-clause-live
 live_units-live-requires-clause-live g c =
     let (w, stand) = c.requires.stand in
-    let places = g.H.Rested.places c.args.shared.now in
-    let named = g.H.Rested.named c.args.shared.now in
+    let places = (g.H.Rested.shared c.args.shared.now).places in
+    let named = (g.H.Rested.shared c.args.shared.now).named in
     subst (λ xs. AreLive c.migrates-on.result places xs named) (sym c.as_slice-3.ensures)
     (are-live c.args.config c.args.trace.now c.requires.config c.requires.trace c.migrates-on.result
-    c.migrates-on.ensures c.args.schedulers.items (g.H.Rested.places c.args.shared.now)
-    (g.H.Rested.named c.args.shared.now) w stand)
+    c.migrates-on.ensures c.args.schedulers.items (g.H.Rested.shared c.args.shared.now).places
+    (g.H.Rested.shared c.args.shared.now).named w stand)
 
 pub live_units-live-requires-clause-fits : goal.live_units-live-requires-clause-fits
 live_units-live-requires-clause-fits g c =
     let (w, stand) = c.requires.stand in
-    let places = g.H.Rested.places c.args.shared.now in
-    let named = g.H.Rested.named c.args.shared.now in
+    let places = (g.H.Rested.shared c.args.shared.now).places in
+    let named = (g.H.Rested.shared c.args.shared.now).named in
     let parts = their-parts c.args.config c.args.trace.now
     c.requires.config c.requires.trace c.migrates-on.result
-    c.migrates-on.ensures c.args.schedulers.items (g.H.Rested.places c.args.shared.now)
-    (g.H.Rested.named c.args.shared.now) w stand
+    c.migrates-on.ensures c.args.schedulers.items (g.H.Rested.shared c.args.shared.now).places
+    (g.H.Rested.shared c.args.shared.now).named w stand
     c.as_slice.result.now c.as_slice.ensures c.in_ok-carriers.carriers.items
-    c.in_ok-carriers.ensures (live_units c.migrates-on.result (g.H.Rested.places c.args.shared.now)
-    c.args.schedulers.items (g.H.Rested.named c.args.shared.now)) refl in
+    c.in_ok-carriers.ensures (live_units c.migrates-on.result
+    (g.H.Rested.shared c.args.shared.now).places c.args.schedulers.items
+    (g.H.Rested.shared c.args.shared.now).named) refl in
     omega (
       arith,
       ap (λ xs. live_units c.migrates-on.result places xs named) c.as_slice-3.ensures,
@@ -74,13 +76,13 @@ live_units-live-requires-clause-fits g c =
 pub totals_of-totals-requires-clause-parts : goal.totals_of-totals-requires-clause-parts
 totals_of-totals-requires-clause-parts g c =
     let (w, stand) = c.requires.stand in
-    let places = g.H.Rested.places c.args.shared.now in
-    let named = g.H.Rested.named c.args.shared.now in
+    let places = (g.H.Rested.shared c.args.shared.now).places in
+    let named = (g.H.Rested.shared c.args.shared.now).named in
     subst (λ xs. HaveParts xs c.live_units-live.result) (sym c.as_slice-4.ensures)
     (their-parts c.args.config c.args.trace.now
     c.requires.config c.requires.trace c.migrates-on.result
-    c.migrates-on.ensures c.args.schedulers.items (g.H.Rested.places c.args.shared.now)
-    (g.H.Rested.named c.args.shared.now) w stand
+    c.migrates-on.ensures c.args.schedulers.items (g.H.Rested.shared c.args.shared.now).places
+    (g.H.Rested.shared c.args.shared.now).named w stand
     c.as_slice.result.now c.as_slice.ensures c.in_ok-carriers.carriers.items
     c.in_ok-carriers.ensures c.live_units-live.result
     (c.live_units-live.ensures ∙ ap (λ xs. live_units c.migrates-on.result places xs named)
@@ -88,12 +90,12 @@ totals_of-totals-requires-clause-parts g c =
 
 pub returns : goal.returns
 returns g c = λ w stand.
-    let places = g.H.Rested.places c.args.shared.now in
-    let named = g.H.Rested.named c.args.shared.now in
+    let places = (g.H.Rested.shared c.args.shared.now).places in
+    let named = (g.H.Rested.shared c.args.shared.now).named in
     outcome-from c.args.config c.args.trace.now
     c.requires.config c.requires.trace c.migrates-on.result
-    c.migrates-on.ensures c.args.schedulers.items (g.H.Rested.places c.args.shared.now)
-    (g.H.Rested.named c.args.shared.now) w stand
+    c.migrates-on.ensures c.args.schedulers.items (g.H.Rested.shared c.args.shared.now).places
+    (g.H.Rested.shared c.args.shared.now).named w stand
     c.as_slice.result.now c.as_slice.ensures c.in_ok-carriers.carriers.items
     c.in_ok-carriers.ensures c.live_units-live.result
     (c.live_units-live.ensures ∙ ap (λ xs. live_units c.migrates-on.result places xs named)

@@ -6,6 +6,6 @@ use Rattle.ea_outcome.proofs.units.live_units.Given as goal
 -- with those of the names that the other schedulers hold they are all
 abbrev pub invariant-loop-scheduler : goal.invariant-loop-scheduler
 invariant-loop-scheduler g l =
-    let named = units_named l.migrates (g.H.Rested.places l.shared) l.schedulers in
+    let named = units_named l.migrates (g.H.Rested.shared l.shared).places l.schedulers in
     l.units + sum_by (λ s. named s.names.held) (drop l.scheduler-index l.schedulers)
     ≡ l.initial.units + sum_by (λ s. named s.names.held) l.schedulers

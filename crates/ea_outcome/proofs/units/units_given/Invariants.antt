@@ -8,5 +8,5 @@ use Rattle.ea_outcome.proofs.units.units_given.Given as goal
 abbrev pub invariant-loop-before : goal.invariant-loop-before
 invariant-loop-before g l = (l.units ≤ (2 ^ 32 - 1) * l.before)
     × (l.units ≡ sum_by (of_name
-    (units_at l.migrates (g.H.Rested.places l.shared) l.schedulers) (g.H.Rested.named l.shared))
-    (range_with_len 1 l.before))
+    (units_at l.migrates (g.H.Rested.shared l.shared).places l.schedulers)
+    (g.H.Rested.shared l.shared).named) (range_with_len 1 l.before))

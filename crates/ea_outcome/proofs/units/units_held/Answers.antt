@@ -8,7 +8,7 @@ use Rattle.ea_outcome.proofs.units.units_held.Goals as goal
 
 pub units_of-units-requires-clause-blocks : goal.units_of-units-requires-clause-blocks
 units_of-units-requires-clause-blocks g c =
-    let places = g.H.Rested.places c.args.shared.now in
+    let places = (g.H.Rested.shared c.args.shared.now).places in
     let schedulers = c.args.schedulers.now in
     let groups = c.groups-groups.result.now in
     subst (All (λ s. IfSome s (HasBlock c.args.migrates places schedulers)))
@@ -19,7 +19,7 @@ units_of-units-requires-clause-blocks g c =
 
 pub returns : goal.returns
 returns g c =
-    let size = units_at c.args.migrates (g.H.Rested.places c.args.shared.now)
+    let size = units_at c.args.migrates (g.H.Rested.shared c.args.shared.now).places
     c.args.schedulers.now in
     let groups = c.groups-groups.result.now in
     c.loop-group.invariant.1

@@ -8,5 +8,5 @@ use Rattle.ea_outcome.proofs.units.units_held.Given as goal
 abbrev pub invariant-loop-group : goal.invariant-loop-group
 invariant-loop-group g l = (l.units ≤ 2 ^ 41 * l.group-index)
     × (l.units ≡ sum_by (λ x. sum_by (λ s. option_map_or
-    (units_at l.migrates (g.H.Rested.places l.shared) l.schedulers) s 0) x.items)
+    (units_at l.migrates (g.H.Rested.shared l.shared).places l.schedulers) s 0) x.items)
     (take l.group-index l.groups))
