@@ -11,7 +11,7 @@ ghost use Rattle.ea_mem_shared.specs.Places.{place_at};
 
 use crate::carriers::{Place, Places};
 use ea_machine::{Node, OwnerWord};
-use ea_model::{Carried, Config, NUMBERS, OutOfMemory, Spot, Trace};
+use ea_model::{Carried, Config, NUMBERS, OutOfMemory, Spot, Trace, first_number};
 use ea_names::Names;
 use ea_queues::Queues;
 use ea_shared::{Link, Rested, Shared, Tried};
@@ -73,7 +73,7 @@ fn employ_mains<C: Carried + Drop>(places: &mut Places<C>, schedulers: u32)
 {
     for before in 0..schedulers {
         let instance = before + 1;
-        places.put(NUMBERS * before + 1, Place::Employed { instance });
+        places.put(first_number(instance), Place::Employed { instance });
     }
 }
 

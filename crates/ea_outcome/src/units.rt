@@ -1,5 +1,5 @@
 //! The units of live blocks, name by name.
-ghost use Rattle.std.specs.Prelude.{◌≡◌, ◌^◌, ◌<◌, ◌≤◌, All, IfSome, length, option_map, sum_by};
+ghost use Rattle.std.specs.Prelude.{◌≡◌, ◌^◌, ◌<◌, ◌≤◌, All, IfSome, length, sum_by};
 ghost use Rattle.std.specs.Option.{option_map_or};
 ghost use Rattle.ea_model.specs.Content.{named};
 ghost use Rattle.ea_names.specs.declared.groups.TheConstants.{GROUP};

@@ -1,5 +1,5 @@
 //! What is shared where nobody steps.
-ghost use Rattle.std.specs.Prelude.{◌≡◌, ℕ, ◌≤◌, true, option_map};
+ghost use Rattle.std.specs.Prelude.{◌≡◌, ◌≤◌, true, option_map};
 ghost use Rattle.ea_machine.specs.Nodes.{spot_named};
 ghost use Rattle.ea_machine.specs.Owners as owners;
 ghost use Rattle.ea_shared.specs.Carriers.{IsCarrier, home_of};

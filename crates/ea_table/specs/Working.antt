@@ -1,5 +1,5 @@
 -- A worker that can pause.
-use Rattle.std.specs.Prelude.{◌≡◌, ℕ, false, true, None, Some, length}
+use Rattle.std.specs.Prelude.{◌≡◌, ℕ, false, true, length}
 use Rattle.atomic_table.specs.Seated.{TableId}
 use Rattle.ea_model.specs.declared.settings.Config.{Config}
 use Rattle.ea_model.specs.declared.trace.Trace.{Trace}

@@ -5,7 +5,7 @@
 //! the carrier takes the slot in the step that changes the word, takes the content out, and gives
 //! the slot back empty. So a seat has no slot between its calls, and each call takes one step of
 //! its scheduler: claiming a slot, and giving it back empty, are looks that change no word.
-ghost use Rattle.std.specs.Prelude.{◌≡◌, ◌≤◌, [], None, Some};
+ghost use Rattle.std.specs.Prelude.{◌≡◌, [], None, Some};
 ghost use Rattle.ea_model.specs.Content.{Content};
 ghost use Rattle.ea_model.specs.Instance.{owner_of};
 ghost use Rattle.ea_model.specs.Trace.{IsScheduler};

@@ -28,7 +28,7 @@ use ea_mbc::Mbc;
 use ea_model::{Config, List, OutOfMemory, Outcome, Spot, Trace};
 use ea_names::Names;
 use ea_outcome::outcome_of;
-use ea_sched::Scheduler;
+use ea_sched::{Scheduler, migrates};
 use ea_shared::Rested;
 use ea_word::{decode, decode_node};
 use std::alloc::Global;
@@ -193,7 +193,7 @@ fn outcome_of_closed(
         schedulers: config.schedulers,
         greatest: trace.greatest,
         given,
-        migrates: config.of(trace.letter).lets_migrate(),
+        migrates: migrates(config, trace),
     };
     outcome_of(alloc, config, trace, schedulers, &still)
 }

@@ -24,10 +24,8 @@ mod views;
 mod worker;
 
 pub use board::Board;
-pub use ending::gather;
 pub use pass::Pass;
-pub use places::HEAD_WORDS;
-pub use rule::{Deal, Ruled, Steps, TakesIn};
+pub use rule::Ruled;
 pub use seats::{Made, make_seats};
 pub use shared::TableShared;
 pub use threads::{gather_run, run_threads, workers_of};

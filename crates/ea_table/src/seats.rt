@@ -17,7 +17,7 @@ use crate::views::{About, View};
 use atomic_table::{Seat, Table};
 use ea_machine::OwnerWord;
 use ea_mbc::Mbc;
-use ea_model::{Config, List, NUMBERS, OutOfMemory, Trace};
+use ea_model::{Config, List, OutOfMemory, Trace, first_number};
 use ea_word::{NO_NODE, encode};
 use std::alloc::Global;
 
@@ -69,7 +69,7 @@ fn employ_mains(words: &mut [u64], schedulers: u32, greatest: u32)
 {
     for before in 0..schedulers {
         let instance = before + 1;
-        let place = owner_place(schedulers, greatest, NUMBERS * before + 1);
+        let place = owner_place(schedulers, greatest, first_number(instance));
         words[place] = encode(OwnerWord::Employed { instance });
     }
 }

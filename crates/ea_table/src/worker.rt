@@ -1,6 +1,5 @@
 //! A scheduler that runs beside others.
-ghost use Rattle.std.specs.Prelude.{◌≡◌, ◌+◌, ◌<◌, ◌≤◌, false, true, None, Some, IfOk, IsFalse};
-ghost use Rattle.std.specs.Prelude.{OnErr, OnOk};
+ghost use Rattle.std.specs.Prelude.{◌≡◌, ◌+◌, ◌<◌, ◌≤◌, false, true, IfOk, IsFalse, OnErr, OnOk};
 ghost use Rattle.ea_model.specs.Settings.{IsValidConfig};
 ghost use Rattle.ea_model.specs.Trace.{IsValidTrace};
 ghost use Rattle.ea_sched.specs.Acting.{actor_of, rests};
