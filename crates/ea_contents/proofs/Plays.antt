@@ -148,9 +148,6 @@ module _ (c : Config) (t : Trace) (ss : List (List Placed)) (m : Moment) (p : Pl
     mine : IsScheduler c.schedulers i
     mine = has-is i has
 
-    abbrev listed : List Placed
-    listed = list_for ss i
-
     pub place : IsAt (list_for ss i) (length (m.shown i)) (done m.state i) (m.past i)
     place = at.places i (has-is i has)
 
@@ -158,12 +155,6 @@ module _ (c : Config) (t : Trace) (ss : List (List Placed)) (m : Moment) (p : Pl
     pub next-is : first_of (waiting e script m i)
         ≡ next_at (done m.state i) (drop (length (m.shown i)) (list_for ss i))
     next-is = first-is (list_for ss i) (length (m.shown i)) (done m.state i) (m.past i) place
-
-    pub in-sections : i - 1 < length p.sections.now
-    in-sections = omega (arith, mine.0, mine.1, at.many)
-
-    pub in-shown : i - 1 < length p.shown.items
-    in-shown = omega (arith, mine.0, mine.1, at.each)
 
     pub section-is : (d : Items Placed) → (get_or p.sections.now (i - 1) d).items ≡ list_for ss i
     section-is d = sym (list-at p.sections.now i d mine.0 (omega (arith, mine.1, at.many)))

@@ -1,5 +1,5 @@
 -- What a definition answers for a trace with writes and reads is valid and has the same text.
-use Rattle.std.proofs.Common.{◌≡◌, ℕ, zero, suc, ◌+◌, ◌++◌, true, List, [], ◌∷◌}
+use Rattle.std.proofs.Common.{◌≡◌, ℕ, zero, suc, ◌+◌, ◌++◌, List, [], ◌∷◌}
 use Rattle.std.proofs.Common.{map, refl, sym, ap, ◌∙◌}
 use Rattle.std.specs.Prelude.{codes, decimal}
 use Rattle.std.specs.List.{flat_map, range_with_len}
@@ -9,14 +9,12 @@ use Rattle.ea_model.specs.declared.outcome.Outcome.{Outcome}
 use Rattle.ea_model.specs.declared.settings.Config.{Config}
 use Rattle.ea_model.specs.declared.trace.Mode.{Mode}
 use Rattle.ea_model.specs.declared.trace.Mode.TheVariants.{Threads, Schedule, Generated}
-use Rattle.ea_model.specs.declared.trace.Stop.{Stop}
 use Rattle.ea_model.specs.declared.trace.Trace.{Trace}
 use Rattle.ea_model.specs.Outcome.{logs_of, plain_outcome}
 use Rattle.ea_model.specs.Trace.{IsValidTrace, listed, plain, plain_mode}
 use Rattle.ea_machine.specs.Completion.{turns_in}
 use Rattle.ea_machine.specs.Setup.{setup_of}
 use Rattle.ea_report.specs.Text.{line, outcome_text}
-use Rattle.ea_trace.specs.Language.{no_stops}
 use Rattle.ea_given.proofs.Plain.{same-setup, valid-plain}
 use Rattle.ea_contents.specs.Command.{IsContentsText}
 use Rattle.ea_contents.specs.Model.{Script, complete, play}
@@ -44,10 +42,6 @@ lists-by shown first zero = refl
 lists-by shown first (suc count) =
     ap (λ later. line (codes "scheduler") (decimal first ∷ []) ++ flat_map line_text (shown first)
     ++ later) (lists-by shown (first + 1) count)
-
-pub unstopped : (stops : List Stop) → no_stops stops ≡ true → stops ≡ []
-unstopped [] e = refl
-unstopped (s ∷ stops) e = absurd cc
 
 -- the text of a run is that of what the input asks for
 pub contents-text : (c : Config) (t : Trace) (script : Script) (o : Outcome)

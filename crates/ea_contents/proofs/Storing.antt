@@ -1,11 +1,10 @@
 -- Words that are written into a memory, one part after another.
-use Rattle.std.proofs.Common.{◌≡◌, ℕ, zero, suc, ◌+◌, ◌-◌, ◌<◌, ◌≤◌, List, [], ◌∷◌, ◌++◌, drop}
-use Rattle.std.proofs.Common.{length, replicate, set, take, refl, sym, ap, ◌∙◌, arith}
+use Rattle.std.proofs.Common.{◌≡◌, ℕ, ◌+◌, ◌-◌, ◌<◌, ◌≤◌, List, ◌++◌, drop}
+use Rattle.std.proofs.Common.{length, replicate, set, take, sym, ap, ◌∙◌, arith}
 use Rattle.std.specs.Prelude.{min}
 use Rattle.std.proofs.Math.Seq.{paste}
-use Rattle.std.proofs.lemmas.List.{append_assoc, length-append, length-replicate, length-take}
-use Rattle.std.proofs.lemmas.List.{length-take-le, length-drop}
-use Rattle.std.proofs.lemmas.List.Edits.{fill_from_more, paste-paste, paste_all, paste_none}
+use Rattle.std.proofs.lemmas.List.{length-append, length-replicate, length-take}
+use Rattle.std.proofs.lemmas.List.Edits.{fill_from_more, paste-paste, paste_all}
 use Rattle.ea_contents.specs.Memory.{fitted, with_words}
 
 pasted : (m ws : List ℕ) (at n : ℕ) → n ≡ length ws → paste m at ws n ≡ with_words at ws m
@@ -19,22 +18,6 @@ cleared-more m at k less =
     (sym (pasted m (replicate k 0) at k (sym (length-replicate k 0))))
     ∙ fill_from_more m at k 0 less
     ∙ pasted m (replicate (k + 1) 0) at (k + 1) (sym (length-replicate (k + 1) 0))
-
-take-less : (n c : ℕ) (l : List ℕ) → n ≤ c → take n (take c l) ≡ take n l
-take-less zero c l le = refl
-take-less (suc n) zero l le = absurd (omega (arith, le))
-take-less (suc n) (suc c) [] le = refl
-take-less (suc n) (suc c) (x ∷ l) le = ap (λ ys. x ∷ ys) (take-less n c l (omega (arith, le)))
-
--- words of the memory itself
-pub copied : (m : List ℕ) (at i n c : ℕ) → n ≤ c → i + c ≤ length m
-    → paste m at (drop i m) n ≡ with_words at (take n (take c (drop i m))) m
-copied m at i n c few fits =
-    let s = drop i m in
-    append_assoc (take at m) (take n s) (drop (at + n) m)
-    ∙ ap (λ k. take at m ++ (take n s ++ drop (at + k) m))
-    (sym (length-take-le n s (omega (arith, few, fits, length-drop i m))))
-    ∙ ap (λ ws. with_words at ws m) (sym (take-less n c s few))
 
 -- some words, and zeros after them
 pub brought : (m src : List ℕ) (at n k : ℕ) → k ≡ min n (length src) → at + n ≤ length m

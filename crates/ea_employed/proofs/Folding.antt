@@ -1,10 +1,10 @@
 -- Choosing carrier by carrier is choosing among all gaps.
-use Rattle.std.proofs.Common.{◌≡◌, ℕ, ◌<◌, Bool, true, false, cond, List, [], ◌∷◌, fold}
-use Rattle.std.proofs.Common.{filter, map, refl, sym, ◌∙◌, ap, subst, inl, inr, arith}
-use Rattle.std.specs.Prelude.{Option, Some, None, IfSome, length}
-use Rattle.std.specs.Prelude.{option_map, nat_le, slice_index_or}
+use Rattle.std.proofs.Common.{◌≡◌, ℕ, Bool, false, cond, List, [], ◌∷◌, fold}
+use Rattle.std.proofs.Common.{filter, map, refl, sym, ◌∙◌, ap, inl, inr, arith}
+use Rattle.std.specs.Prelude.{Option, Some, None}
+use Rattle.std.specs.Prelude.{option_map, nat_le}
 use Rattle.std.specs.Cmp.{IsStrictWeakOrder}
-use Rattle.std.proofs.lemmas.Bool.{cases_Bool, cond-true, cond-false, cond_both}
+use Rattle.std.proofs.lemmas.Bool.{cases_Bool, cond-true, cond-false}
 use Rattle.std.proofs.lemmas.List.Sums.{fold-append}
 use Rattle.std.proofs.lemmas.List.Elements.{filter-append}
 use Rattle.ea_model.specs.declared.carriers.Gap.{Gap}
@@ -13,15 +13,13 @@ use Rattle.ea_model.specs.declared.settings.Strategy.{Strategy}
 use Rattle.ea_model.specs.declared.settings.Strategy.TheVariants.{Bf, Aobf, Aoff, AoffCbf}
 use Rattle.ea_model.specs.declared.settings.Strategy.TheVariants.{AoffCaobf, AgeffCaoff}
 use Rattle.ea_model.specs.declared.settings.Strategy.TheVariants.{AgeffCbf, AgeffCaobf, Gf, Af}
-use Rattle.ea_model.specs.Content.{Content, gaps_of, is_empty_multi}
+use Rattle.ea_model.specs.Content.{Content, gaps_of}
 use Rattle.ea_model.specs.Choice.{before, better, first, fitting, choice}
 use Rattle.ea_laws.proofs.Orders.{takes_first-order}
 use Rattle.ea_model.specs.Strategies.{candidate, candidates, candidates_in}
-use Rattle.ea_model.specs.Strategies.{takes_first, inner_of, large_enough, lower}
+use Rattle.ea_model.specs.Strategies.{takes_first, inner_of, large_enough}
 use Rattle.ea_model.specs.declared.carriers.Inner.TheVariants as inner
 use Rattle.ea_employed.specs.Better.{better_of}
-use Rattle.ea_employed.specs.Choices.{candidate_of, IsChoice, IsChosenIn}
-use Rattle.ea_employed.specs.declared.choice.Choice.{Choice}
 
 -- inside a carrier a strategy goes by its inner order
 same_bf : (c : Content) (g h : Gap)
@@ -181,28 +179,3 @@ choice_more s need best c cs shared =
     (large_enough need (candidates_in c.kind c))
     ∙ ap (better_of (takes_first s) best)
     (ap (λ xs. first (takes_first s) (large_enough need xs)) shared ∙ first_inside s need c))
-
--- the same of the gaps of carriers without blocks
-module _ (need : ℕ) (best : Option Candidate) (c : Content) (cs : List Content) where
-  abbrev of_empty : List Content → Option Candidate → Option Candidate
-  of_empty ds o = fold (better lower) o (large_enough need (candidates (filter is_empty_multi ds)))
-
-  pub empty_more : is_empty_multi c ≡ true → candidates_in c.kind c ≡ map (candidate c) (gaps_of c)
-      → of_empty (c ∷ cs) best ≡ of_empty cs
-      (better_of lower best (option_map (candidate c) (choice inner.Aoff need (gaps_of c))))
-  empty_more done shared =
-      ap (λ ds. fold (better lower) best (large_enough need (candidates ds)))
-      (cond-true (is_empty_multi c) (c ∷ filter is_empty_multi cs) (filter is_empty_multi cs)
-      done) ∙ choice_more Aoff need best c (filter is_empty_multi cs) shared
-
--- what is chosen in the carrier at an index is a choice among all
-pub chosen_here : (need : ℕ) (cs : List Content) (i : ℕ) (item : Content) → i < length cs
-    → slice_index_or cs i item ≡ item → (o : Option Choice) → IfSome o (λ x. x.index ≡ i)
-    → IfSome o (λ x. IsChosenIn need item x.candidate) → IfSome o (IsChoice need cs)
-chosen_here need cs i item within is None at chosen = tt
-chosen_here need cs i item within is (Some x) at chosen = record {
-  content = item;
-  within = subst (λ j. j < length cs) (sym at) within;
-  is = ap (λ j. slice_index_or cs j item) at ∙ is;
-  chosen = chosen;
-}

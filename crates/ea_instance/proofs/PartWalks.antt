@@ -1,5 +1,5 @@
 -- A walk over the parts of a carrier: what is behind it, and what is still to come.
-use Rattle.std.proofs.Common.{◌≡◌, ◌⊎◌, ℕ, ◌+◌, ◌-◌, ◌<◌, ◌≤◌, List, [], ◌∷◌, ◌++◌, map, sym, ap, ◌∙◌}
+use Rattle.std.proofs.Common.{◌≡◌, ◌⊎◌, ℕ, ◌+◌, ◌-◌, ◌<◌, ◌≤◌, List, [], ◌∷◌, ◌++◌, sym, ap, ◌∙◌}
 use Rattle.std.proofs.Common.{subst, refl, inl, inr, arith, All}
 use Rattle.std.specs.Prelude.{None, Some, IsSome}
 use Rattle.std.proofs.lemmas.Bool.{cases_eq}
@@ -29,16 +29,6 @@ pub record IsWalked (x : Content) (at : ℕ) (blocks holes : List ℕ) : Type 0 
   pub gaps_are : holes ++ gap_sizes (gaps at x.units rest) ≡ gap_sizes (gaps_of x)
   pub blocks_at : (k : ℕ) → at ≤ k → block_at x.blocks k ≡ block_at rest k
   pub gaps_at : (k : ℕ) → at ≤ k → gap_at (gaps_of x) k ≡ gap_at (gaps at x.units rest) k
-
-pub starts : (x : Content) → Tiled 8 x.units x.blocks → IsWalked x 8 [] []
-starts x tiled = record {
-  rest = x.blocks;
-  tiled = tiled;
-  blocks_are = refl;
-  gaps_are = refl;
-  blocks_at = λ k le. refl;
-  gaps_at = λ k le. refl;
-}
 
 -- the next part: a block that is the first of the rest, or a gap up to that or to the end
 pub record IsNext (x : Content) (at : ℕ) (blocks holes : List ℕ) : Type 0 where

@@ -40,9 +40,6 @@ inner leaves e node a =
     let p : node * 1 ≤ node * 2 ^ e = mul-le-mul_left node (pow_pos e) in
     omega (arith, a.to, doubled node e, two-pow-succ e, pow_pos e)
 
-pub lowest : (leaves node : ℕ) → IsAbove leaves zero node → leaves ≤ node
-lowest leaves node a = omega (arith, a.from)
-
 -- no leaf has a greater value than a node above it
 pub leaf-le : (leaves : ℕ) (m : List ℕ) → Greater leaves m → (e node q : ℕ)
     → IsAbove leaves e node → node * 2 ^ e ≤ q → q < node * 2 ^ e + 2 ^ e
@@ -106,15 +103,6 @@ pub record HasComeTo (value leaves : ℕ) (m : List ℕ) (node : ℕ) : Type 0 w
   pub above : IsAbove leaves levels node
   pub great : value ≤ get_or m node 0
   pub less : (q : ℕ) → leaves ≤ q → q < node * 2 ^ levels → get_or m q 0 < value
-
-pub start : (value leaves : ℕ) (m : List ℕ) → (t : IsTree leaves m) → value ≤ get_or m 1 0
-    → HasComeTo value leaves m 1
-start value leaves m t great = record {
-  levels = t.power.0;
-  above = root leaves m t;
-  great = great;
-  less = λ q from to. absurd (omega (arith, t.power.1));
-}
 
 left_from : (value leaves : ℕ) (m : List ℕ) (e node : ℕ) → IsAbove leaves e node → node < leaves
     → ((q : ℕ) → leaves ≤ q → q < node * 2 ^ e → get_or m q 0 < value)

@@ -1,5 +1,5 @@
 -- A call under the lock: what the seat may do with the ledger, and what its pass knows then.
-use Rattle.std.proofs.Common.{◌≡◌, ℕ, ◌+◌, ◌≤◌, false, List, [], ◌∷◌, ◌++◌, drop, length, sym}
+use Rattle.std.proofs.Common.{◌≡◌, ℕ, ◌+◌, ◌≤◌, List, [], ◌∷◌, ◌++◌, drop, length, sym}
 use Rattle.std.proofs.Common.{ap, ◌∙◌, subst, refl, arith}
 use Rattle.atomic_table.specs.Table.{Allows, Me, Step, rest}
 use Rattle.ea_segments.specs.declared.calls.Call.{Call}
@@ -72,9 +72,6 @@ module _ (m n : Me Account View) (bare : m.1 ≡ []) (won : Won m n) (x y : Acco
         ∙ ap (λ (l : List Call). (acting m.0).mine ++ l)
         (ap (λ (l : List Call). drop (length l) y.history) seen
         ∙ ap (drop (length x.history)) history ∙ drop-front x.history (c ∷ []))
-
-    pub single-after : IsSingle k.0
-    single-after = subst IsSingle (sym is) refl
 
     pub number-after : (acting k.0).number ≡ (acting m.0).number
     number-after = ap (λ (u : View). (acting u).number) is

@@ -81,9 +81,6 @@ module _ (a : About) (id : TableId) where
     pub count : length passes ≡ n
     pub each : (k : ℕ) (d : Pass) → k < n → IsDealt k (get_or passes k d)
 
-  pub none-dealt : ArePasses 0 []
-  none-dealt = record { count = refl; each = λ k d less. absurd (omega (arith, less)) }
-
   pub one-dealt : (n : ℕ) (passes : List Pass) (p : Pass) → ArePasses n passes → IsDealt n p
       → ArePasses (n + 1) (passes ++ p ∷ [])
   one-dealt n passes p are is = record {

@@ -1,35 +1,26 @@
--- What a scheduler has that asks for a place, in each reached state, while it searches, before it
--- fetches, and before it creates a carrier: the operation is left that asks, its need can be
--- placed, its name is one of the trace and isn't held, and the old block of a reallocation is;
--- nothing is chosen among the employed carriers; a carrier that is fetched has a choice; and the
--- plan of one that is created is still the plan.
+-- What a scheduler has that asks for a place, in each reached state: the operation is left that
+-- asks, its need can be placed, its name is one of the trace and isn't held, and the old block of a
+-- reallocation is; and a carrier that is fetched has a choice.
 use Rattle.std.proofs.Common.{◌≡◌, ℕ, ◌%◌, ◌≤◌, true, List, [], ◌∷◌, sym, ap, ◌∙◌, subst}
 use Rattle.std.proofs.Common.{refl, arith}
-use Rattle.std.specs.Prelude.{None, Some, Ok, ◌⊎◌}
-use Rattle.ea_model.specs.declared.carriers.CarrierPlan.{CarrierPlan}
+use Rattle.std.specs.Prelude.{None, Some}
 use Rattle.ea_model.specs.declared.carriers.Spot.{Spot}
 use Rattle.ea_model.specs.declared.operations.Op.{Op}
 use Rattle.ea_model.specs.declared.operations.Op.TheVariants as op
 use Rattle.ea_model.specs.declared.settings.Config.{Config}
 use Rattle.ea_model.specs.declared.trace.Trace.{Trace}
-use Rattle.ea_model.specs.declared.units.TheConstants.{MAX_PAGES, MIN_BLOCK}
+use Rattle.ea_model.specs.declared.units.TheConstants.{MIN_BLOCK}
 use Rattle.ea_model.specs.Content.{Content}
 use Rattle.ea_model.specs.Employment.{employing}
-use Rattle.ea_model.specs.Instance.{Instance, chosen_spot, plan, planned_own, with_own}
+use Rattle.ea_model.specs.Instance.{chosen_spot}
 use Rattle.ea_model.specs.Settings.{IsValidConfig}
 use Rattle.ea_model.specs.Trace.{IsScheduler, IsValidTrace}
 use Rattle.ea_model.proofs.Options.{same-some}
-use Rattle.ea_model.proofs.Rising.{item_at-All, item_at-new}
-use Rattle.ea_laws.specs.Kept.{HasPages, IsKept, own_number}
-use Rattle.ea_laws.proofs.Keeping.{IsKept-made}
-use Rattle.ea_laws.proofs.Owned.{unused-All}
-use Rattle.ea_machine.specs.Searches.{goes_on}
 use Rattle.ea_machine.specs.declared.parts.Part.{Part}
 use Rattle.ea_machine.specs.declared.asks.Ask.{Ask}
 use Rattle.ea_machine.specs.declared.nodes.Named.{Named}
 use Rattle.ea_machine.specs.declared.owners.OwnerWord.{OwnerWord}
-use Rattle.ea_machine.specs.declared.stages.Stage.{Stage}
-use Rattle.ea_machine.specs.declared.stages.Stage.TheVariants.{Creating, Fetching, Searching}
+use Rattle.ea_machine.specs.declared.stages.Stage.TheVariants.{Fetching}
 use Rattle.ea_machine.specs.Actor.{Actor}
 use Rattle.ea_machine.specs.Machine.{IsReached}
 use Rattle.ea_machine.specs.Nodes.{named_at}
@@ -37,15 +28,13 @@ use Rattle.ea_machine.specs.Rows.{Won}
 use Rattle.ea_machine.specs.Setup.{Setup, is_scheduler, setup_of}
 use Rattle.ea_machine.specs.State.{State}
 use Rattle.ea_machine.specs.Table.{tried_at}
-use Rattle.ea_sound.specs.Present.{HasLeft}
-use Rattle.ea_sound.specs.Present.{Asked, Fits, OfAsk, OldHeld, Rule}
+use Rattle.ea_sound.specs.Present.{Asked, OfAsk, Rule}
 use Rattle.ea_sound.specs.Rule.{Kept}
 use Rattle.ea_sound.proofs.Asked.{first-operation, reached-rule}
 use Rattle.ea_sound.proofs.Entries.{ask-even, ask-least}
 use Rattle.ea_sound.proofs.FetchedFits.{won-from}
 use Rattle.ea_sound.proofs.HeldBlocks.{not_held}
 use Rattle.ea_sound.proofs.Numbered.{scheduler-seat}
-use Rattle.ea_sound.proofs.Plans.{own-between, planned-number}
 use Rattle.ea_sound.proofs.RowLeaves as rows
 use Rattle.ea_sound.proofs.SoundRanges.{number-scheduler}
 use Rattle.ea_sound.proofs.TraceNames.{IsNameOf}
@@ -67,9 +56,6 @@ module _ (c : Config) (t : Trace) (valid : IsValidConfig c)
 
   k : Kept e w
   k = rule.kept
-
-  fits : (stage : Stage Content) → a.stage ≡ stage → Fits e w me a stage
-  fits stage now = subst (Fits e w me a) now (rule.present.fits me)
 
   -- the operation that asks is left
   first-by : (ask : Ask) (todo : List Op) → a.todo ≡ todo → OfAsk ask todo
@@ -107,37 +93,13 @@ module _ (c : Config) (t : Trace) (valid : IsValidConfig c)
 
     -- the old block is held, under a name of the trace
     module _ (old : Named) (of : ask.old ≡ Some old) where
-      pub asked-old : named_at old.name a.held ≡ Some old
-      asked-old = subst (λ o. OldHeld o a.held) of asked.old
 
       pub asked-old_name : IsNameOf t old.name
       asked-old_name = old-by ask a.todo refl asked.of old of
 
-  -- in a search
-  module _ (ask : Ask) (n : ℕ) (part : Part) (now : a.stage ≡ Searching ask n part) where
-    searches : Fits e w me a (Searching ask n part)
-    searches = fits (Searching ask n part) now
-
-    pub search-asked : Asked e w a ask
-    search-asked = searches.0
-
-    pub search-left : HasLeft e part
-    search-left = searches.1
-
-    pub search-goes : goes_on part ≡ true
-    search-goes = searches.2
-
   -- before a try to fetch
   module _ (ask : Ask) (n : ℕ) (part : Part) (seen : OwnerWord)
       (now : a.stage ≡ Fetching ask n part seen) where
-    fetches : Fits e w me a (Fetching ask n part seen)
-    fetches = fits (Fetching ask n part seen) now
-
-    pub fetch-asked : Asked e w a ask
-    fetch-asked = fetches.0
-
-    pub fetch-left : HasLeft e part
-    fetch-left = fetches.1
 
     -- there is a choice with what it brings
     pub fetched-chosen : (x : Content) → tried_at seen (w.shared.places n) ≡ Won x
@@ -145,14 +107,3 @@ module _ (c : Config) (t : Trace) (valid : IsValidConfig c)
     fetched-chosen x won =
         let (i, g, word, same) = won-from seen (w.shared.places n) x won in
         rows.fetched-chosen e w me is rule ask n part seen now i g x word same
-
-  -- before a carrier is created
-  module _ (ask : Ask) (p : CarrierPlan) (now : a.stage ≡ Creating ask p) where
-    creates : Fits e w me a (Creating ask p)
-    creates = fits (Creating ask p) now
-
-    pub create-asked : Asked e w a ask
-    create-asked = creates.0
-
-    pub create-plan : plan a.instance ask.need ≡ Ok p
-    create-plan = creates.1

@@ -44,18 +44,15 @@ use Rattle.ea_machine.specs.Words.{IsLargest}
 use Rattle.ea_machine.specs.Machine.{wants_on}
 use Rattle.ea_machine.specs.Releases.{turned}
 use Rattle.ea_machine.specs.Table.{answer, effect}
-use Rattle.ea_machine.specs.declared.tasks.Task.{Task}
-use Rattle.ea_machine.specs.declared.tasks.Why.TheVariants.{For, Walk}
+use Rattle.ea_machine.specs.declared.tasks.Why.TheVariants.{Walk}
 use Rattle.ea_sound.specs.Listed.{KeepsLists}
 use Rattle.ea_sound.specs.Contents.{AtHome, Everywhere, InHand, hand_sum, home_sum, seats}
 use Rattle.ea_sound.specs.Names.{of_hand, only_at}
 use Rattle.ea_sound.specs.Places.{IsNumber, has_number, is_there, none}
 use Rattle.ea_sound.specs.Ranges.{IsApartFrom, IsLaidOutAsKind}
-use Rattle.ea_sound.specs.Here.{Here}
-use Rattle.ea_sound.specs.Moments.{at, with_actor}
 use Rattle.ea_sound.specs.Present.{Fits, HasEmployer, HasOther, Rule, StillPooled}
 use Rattle.ea_sound.specs.Rule.{Belongs, Kept, Standing, of_owner}
-use Rattle.ea_sound.specs.Leaves.{InOperation, InWalk}
+use Rattle.ea_sound.specs.Leaves.{InWalk}
 use Rattle.ea_sound.specs.Steady.{AreSteady, IsShown, IsSteadyStage}
 use Rattle.ea_sound.proofs.Protocols.{lists-run}
 use Rattle.ea_sound.proofs.SoundLists.{looks-number}
@@ -64,7 +61,7 @@ use Rattle.ea_sound.proofs.Starting.{regions-apart}
 use Rattle.ea_sound.proofs.Asked.{reached-rule}
 use Rattle.ea_sound.proofs.BlockWeights.{only_at-itself}
 use Rattle.ea_sound.proofs.CarrierRows.{create_absent}
-use Rattle.ea_sound.proofs.Created.{created-owner, created-slot}
+use Rattle.ea_sound.proofs.Created.{created-owner}
 use Rattle.ea_sound.proofs.Employers.{busy-place, there-on}
 use Rattle.ea_sound.proofs.FetchedFits.{won-from}
 use Rattle.ea_sound.proofs.Hits.{HasBlock, hit}
@@ -72,17 +69,15 @@ use Rattle.ea_sound.proofs.Homes.{pooled-belongs, pooled-hit, pooled-laid, poole
 use Rattle.ea_sound.proofs.NodeSeats.{collecting-home, returning-on}
 use Rattle.ea_sound.proofs.Numbered.{scheduler-seat}
 use Rattle.ea_sound.proofs.OwnEntries.{IsSomewhere, not_here-none, owner-has, owner-scheduler}
-use Rattle.ea_sound.proofs.Plans.{planned-number}
 use Rattle.ea_sound.proofs.OwnEntries.{somewhere-hand, somewhere-home, somewhere-returning, this}
 use Rattle.ea_sound.proofs.Assembly.{Closed, Holds, turned-holds}
 use Rattle.ea_sound.proofs.CarrierMoves.{closed}
 use Rattle.ea_sound.proofs.LargestGaps.{laid-largest}
 use Rattle.ea_sound.proofs.Protocols.{steady-run}
-use Rattle.ea_sound.proofs.StillMoves.{keeps-operation, keeps-walk}
+use Rattle.ea_sound.proofs.StillMoves.{keeps-walk}
 use Rattle.ea_sound.proofs.RowLeaves.{creating-bare, row-left}
 use Rattle.ea_sound.proofs.SoundOwners.{content-number}
 use Rattle.ea_sound.proofs.SoundRanges.{number-scheduler, sound-ranges}
-use Rattle.ea_sound.proofs.Totals.{put-here}
 use Rattle.ea_sound.proofs.Weights.{one-itself}
 
 employer-there : (me : ℕ) (p : CarrierAt) → HasEmployer me p → p ≢ Absent
@@ -395,21 +390,11 @@ module _ (c : Config) (t : Trace) (valid : IsValidConfig c)
       pub walks : Closed e moved me (InWalk e w moved me)
       walks = closed e w moved me is (InWalk e w moved me) (keeps-walk e w moved me is)
 
-      pub operates : Closed e moved me (InOperation e w moved me)
-      operates = closed e w moved me is (InOperation e w moved me) (keeps-operation e w moved me is)
-
       pub turned-walk : a.stage ≡ Routed route Walk gone
           → Holds e w moved me (InWalk e w moved me) walks Walk a.passed
           (turned e me route gone a got)
       turned-walk now = turned-holds e w moved me (InWalk e w moved me) walks route Walk gone a
           got (row-left e w me is rule (Routed route Walk gone) (λ q. cc) now)
-
-      pub turned-operation : (task : Task) → a.stage ≡ Routed route (For task) gone
-          → Holds e w moved me (InOperation e w moved me) operates (For task) a.passed
-          (turned e me route gone a got)
-      turned-operation task now = turned-holds e w moved me (InOperation e w moved me) operates
-          route (For task) gone a got
-          (row-left e w me is rule (Routed route (For task) gone) (λ q. cc) now)
 
     -- a carrier that is created
     module _ (ask : Ask) (p : CarrierPlan) (now : a.stage ≡ Creating ask p) where
@@ -418,12 +403,4 @@ module _ (c : Config) (t : Trace) (valid : IsValidConfig c)
           let f = fits (Creating ask p) now in (
             created-owner e me a.instance (k.ranges.instances me is) ask.need p f.1,
             create_absent e w me is k (Creating ask p) (creating-bare ask p) now f.2 ask.need p f.1,
-          )
-
-      pub create-range : IsNumber e p.number
-      create-range =
-          let f = fits (Creating ask p) now in
-          let own = k.ranges.instances me is in (
-            omega (arith, (planned-number a.instance ask.need p f.1).0),
-            omega (arith, created-slot e me a.instance own ask.need p f.1 is),
           )

@@ -92,9 +92,6 @@ module _ (e : Setup) (rules : (L : List ℕ) → Rule e (run e L)) (L : List ℕ
   abbrev pub acting : Actor
   acting = actor_after e L me
 
-  abbrev pub mid : Actor
-  mid = begun e L me
-
   abbrev pub turn : List ℕ
   turn = L ++ me ∷ []
 

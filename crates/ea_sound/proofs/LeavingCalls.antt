@@ -7,7 +7,7 @@ use Rattle.std.specs.Prelude.{Option, None, Some}
 use Rattle.ea_model.specs.declared.carriers.Kind.TheVariants.{Multi}
 use Rattle.ea_model.specs.declared.settings.Config.{Config}
 use Rattle.ea_model.specs.declared.trace.Trace.{Trace}
-use Rattle.ea_model.specs.Content.{Content, can_go, gaps_of, largest}
+use Rattle.ea_model.specs.Content.{Content, gaps_of, largest}
 use Rattle.ea_model.specs.Instance.{content_of, employed, owner_of}
 use Rattle.ea_model.specs.Settings.{IsValidConfig}
 use Rattle.ea_model.specs.Trace.{IsScheduler, IsValidTrace}
@@ -20,21 +20,19 @@ use Rattle.ea_machine.specs.declared.stages.Route.TheVariants.{Abandoning, Clear
 use Rattle.ea_machine.specs.Actor.{Actor}
 use Rattle.ea_machine.specs.Machine.{IsReached}
 use Rattle.ea_machine.specs.Owners.{Absent, Employed}
-use Rattle.ea_machine.specs.Setup.{Setup, is_scheduler, migration, setup_of}
+use Rattle.ea_machine.specs.Setup.{Setup, migration, setup_of}
 use Rattle.ea_machine.specs.State.{State}
 use Rattle.ea_sound.specs.Contents.{InHand, hand_sum}
 use Rattle.ea_sound.specs.Places.{IsNumber, has_number, none}
 use Rattle.ea_sound.specs.Present.{Fits, Rule}
 use Rattle.ea_sound.specs.Ranges.{IsLaidOutAsKind}
-use Rattle.ea_sound.specs.Rule.{Belongs, Kept, of_owner}
+use Rattle.ea_sound.specs.Rule.{Kept}
 use Rattle.ea_machine.specs.Words.{IsLargest}
 use Rattle.ea_sound.proofs.Asked.{reached-rule}
 use Rattle.ea_sound.proofs.CarrierCalls.{there-number}
-use Rattle.ea_sound.proofs.Created.{scheduler-number}
 use Rattle.ea_sound.proofs.Employers.{employed-once, employed-place, found-one, found-weighs}
 use Rattle.ea_sound.proofs.HandRows.{multi-laid}
 use Rattle.ea_sound.proofs.LargestGaps.{laid-largest}
-use Rattle.ea_sound.proofs.OwnEntries.{owner-scheduler, somewhere-hand, this}
 use Rattle.ea_sound.proofs.Weights.{one-itself}
 
 module _ (c : Config) (t : Trace) (valid : IsValidConfig c)
@@ -79,12 +77,6 @@ module _ (c : Config) (t : Trace) (valid : IsValidConfig c)
         found-weighs (has_number x.number) x.number y a.instance q,
       ))
 
-    leaving-owner : Belongs e me x → IsScheduler c.schedulers (owner_of x.number)
-    leaving-owner belongs = scheduler-number e (owner_of x.number)
-        (subst (λ i. is_scheduler e i ≡ true) belongs.owner
-        (owner-scheduler e w k x
-        (somewhere-hand e w k x me (leaves (of_owner (this x)) (of_owner (this x))))))
-
   module _ (why : Why) (gone : Gone) (x : Content) where
     -- a carrier that is abandoned
     module _ (now : a.stage ≡ Routed (Abandoning x) why gone) where
@@ -102,9 +94,6 @@ module _ (c : Config) (t : Trace) (valid : IsValidConfig c)
 
       pub abandon-number : IsNumber e x.number
       abandon-number = leaving-number x (λ b h. ap (hand_sum b h) now) abandons.0.2
-
-      pub abandon-none : content_of (employed a.instance) x.number ≡ None
-      abandon-none = leaving-none x (λ b h. ap (hand_sum b h) now) abandons.0.2
 
       pub abandon-laid : IsLaidOut x
       abandon-laid = multi-laid x abandon-many
@@ -133,28 +122,10 @@ module _ (c : Config) (t : Trace) (valid : IsValidConfig c)
       pub send-number : IsNumber e x.number
       send-number = leaving-number x (λ b h. ap (hand_sum b h) now) sends.0.3
 
-      pub send-none : content_of (employed a.instance) x.number ≡ None
-      send-none = leaving-none x (λ b h. ap (hand_sum b h) now) sends.0.3
-
-      pub send-laid : IsLaidOut x
-      send-laid = multi-laid x send-many
-          (subst (InHand IsLaidOut IsLaidOutAsKind) now (k.ranges.hand_laid me))
-
-      -- its owner is a scheduler
-      pub send-owner : IsScheduler c.schedulers (owner_of x.number)
-      send-owner = leaving-owner x (λ b h. ap (hand_sum b h) now) sends.0.3
-          (subst (InHand (Belongs e me) (Belongs e me)) now (k.ranges.in_hand me))
-
     -- one that is cleared
     module _ (now : a.stage ≡ Routed (Clearing x) why gone) where
       clears : Fits e w me a (Routed (Clearing x) why gone)
       clears = fits (Routed (Clearing x) why gone) now
-
-      pub clear-can_go : can_go x.kind ≡ true
-      clear-can_go = clears.0.0
-
-      pub clear-empty : x.blocks ≡ []
-      clear-empty = clears.0.1
 
       pub clear-mine : owner_of x.number ≡ me
       clear-mine = clears.0.2

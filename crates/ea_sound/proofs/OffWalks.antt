@@ -28,12 +28,12 @@ use Rattle.ea_machine.specs.declared.tasks.Gone.TheVariants.{Open}
 use Rattle.ea_machine.specs.declared.tasks.Why.TheVariants.{Walk}
 use Rattle.ea_machine.specs.declared.stages.Stage.TheVariants.{Begin, Routed}
 use Rattle.ea_machine.specs.declared.stages.Route.{Route}
-use Rattle.ea_machine.specs.declared.stages.Route.TheVariants.{Linking, Looking}
+use Rattle.ea_machine.specs.declared.stages.Route.TheVariants.{Looking}
 use Rattle.ea_machine.specs.Actor.{Actor}
 use Rattle.ea_machine.specs.Machine.{IsReached, begins}
 use Rattle.ea_machine.specs.Nodes.{named_at}
 use Rattle.ea_machine.specs.Releases.{Turned, route_of}
-use Rattle.ea_machine.specs.Rows.{Answer, Link, Passes, Rests, TakeAll, TakeLink}
+use Rattle.ea_machine.specs.Rows.{Answer, Passes, Rests, TakeAll, TakeLink}
 use Rattle.ea_machine.specs.Setup.{Setup, is_scheduler, migration, setup_of}
 use Rattle.ea_machine.specs.Shared.{Shared}
 use Rattle.ea_machine.specs.State.{State}
@@ -249,10 +249,3 @@ module _ (c : Config) (t : Trace) (valid : IsValidConfig c)
       (at Begin (record a { passed = with_passed a.next a.passed }))
   take_link-passes node older now next passes =
       begin-leaves now (Some node) next (Passes older) passes
-
-  -- a node of the walk was linked in another's queue
-  pub link-walks : (node : Node) (to : ℕ) (gone : Gone)
-      → a.stage ≡ Routed (Linking node to) Walk gone
-      → InWalk e w (effect me (Link node to) w.shared) me (at Begin a)
-  link-walks node to gone now =
-      row-left e w me is rule (Routed (Linking node to) Walk gone) (λ z. cc) now

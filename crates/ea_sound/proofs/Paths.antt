@@ -1,19 +1,18 @@
 -- What a scheduler does for its operation where carriers don't migrate, path by path.
-use Rattle.std.specs.Prelude.{◌≡◌, ◌≢◌, ℕ, false, None, Some, Ok}
+use Rattle.std.specs.Prelude.{◌≡◌, ◌≢◌, ℕ, false, Some}
 use Rattle.std.proofs.Common.{refl, ap, ◌∙◌}
-use Rattle.ea_model.specs.declared.carriers.CarrierPlan.{CarrierPlan}
 use Rattle.ea_model.specs.declared.carriers.Spot.{Spot}
 use Rattle.ea_model.specs.declared.reallocation.Decision.{Decision}
 use Rattle.ea_model.specs.declared.reallocation.Decision.TheVariants.{Stay, ShrinkHere, GrowHere}
 use Rattle.ea_model.specs.declared.reallocation.Decision.TheVariants.{ShrinkCarrier, Move}
-use Rattle.ea_model.specs.Instance.{chosen_spot, creating, decision_at, is_alone, plan}
+use Rattle.ea_model.specs.Instance.{chosen_spot, decision_at, is_alone}
 use Rattle.ea_machine.specs.declared.asks.Ask.{Ask}
 use Rattle.ea_machine.specs.declared.nodes.Named.{Named}
 use Rattle.ea_machine.specs.Actor.{Actor}
-use Rattle.ea_machine.specs.Placements.{chosen_by, created_by, making, new_carrier, new_carrier_by}
-use Rattle.ea_machine.specs.Placements.{placed_at, placed_by, search_if, seek, seek_by}
+use Rattle.ea_machine.specs.Placements.{chosen_by}
+use Rattle.ea_machine.specs.Placements.{placed_at, seek, seek_by}
 use Rattle.ea_machine.specs.Reallocations.{reallocated_by, resized_here}
-use Rattle.ea_machine.specs.Setup.{Setup, migration}
+use Rattle.ea_machine.specs.Setup.{Setup}
 
 module _ (setup : Setup) (me : ℕ) (a : Actor) (ask : Ask) where
   -- a block is placed where the strategy chooses
@@ -22,16 +21,6 @@ module _ (setup : Setup) (me : ℕ) (a : Actor) (ask : Ask) where
       ≡ placed_at setup me ask a spot
   seek-chosen spot shared chosen = ap (seek_by setup me ask a) shared
       ∙ ap (chosen_by setup me ask a) chosen
-
-  -- a multiblock carrier is created, and the block placed where the strategy chooses then
-  pub multi : migration setup ≡ false → (p : CarrierPlan) → plan a.instance ask.need ≡ Ok p
-      → (spot : Spot) → p.single ≡ false
-      → chosen_spot (creating a.instance p) ask.need ≡ Some spot
-      → new_carrier setup me ask 0 a
-      ≡ placed_at setup me ask (record a { instance = creating a.instance p }) spot
-  multi off p planned spot shared chosen = ap (new_carrier_by setup me ask 0 a) planned
-      ∙ ap (making setup me ask p a) off ∙ ap (created_by setup me ask p a) shared
-      ∙ ap (placed_by setup me ask (record a { instance = creating a.instance p })) chosen
 
 module _ (setup : Setup) (me : ℕ) (a : Actor) (old : Named) (fresh need : ℕ) where
   stays_by : (d : Decision) → d ≢ Move

@@ -182,7 +182,3 @@ module _ (e : Setup) (me : ℕ) where
   pub turned-created : (r : Route Content) (g : Gone) (a : Actor) (z : Answer)
       → (turned e me r g a z).actor.instance.created ≡ a.instance.created
   turned-created r g a z = (turned-short r g a z).1.6
-
-  pub route-created : (h : Named) (a : Actor)
-      → (route_of e me h a).actor.instance.created ≡ a.instance.created
-  route-created h a = (route-short h a).1.6

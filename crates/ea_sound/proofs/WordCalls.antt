@@ -1,6 +1,6 @@
 -- What the answers of a look and of a try tell of a carrier's place, and which words they can show
 -- of the carrier of a block in the hand: one that has an employer.
-use Rattle.std.proofs.Common.{◌≡◌, ◌≢◌, ℕ, Bool, true, false, sym, ap, ◌∙◌, subst, inl, inr}
+use Rattle.std.proofs.Common.{◌≡◌, ◌≢◌, ℕ, Bool, true, false, ap}
 use Rattle.ea_model.specs.declared.settings.Config.{Config}
 use Rattle.ea_model.specs.declared.trace.Trace.{Trace}
 use Rattle.ea_model.specs.Content.{Content}
@@ -11,20 +11,14 @@ use Rattle.ea_machine.specs.declared.owners.OwnerWord.{OwnerWord}
 use Rattle.ea_machine.specs.declared.owners.OwnerWord.TheVariants as word
 use Rattle.ea_machine.specs.declared.tasks.Gone.{Gone}
 use Rattle.ea_machine.specs.declared.tasks.Why.{Why}
-use Rattle.ea_machine.specs.declared.stages.Stage.{Stage}
-use Rattle.ea_machine.specs.declared.stages.Stage.TheVariants.{Routed}
-use Rattle.ea_machine.specs.declared.stages.Route.TheVariants.{Looking, Trying}
-use Rattle.ea_machine.specs.Actor.{Actor}
 use Rattle.ea_machine.specs.Machine.{IsReached}
 use Rattle.ea_machine.specs.Owners.{CarrierAt, Absent, Busy, Employed, Pooled, Returning, same_word}
 use Rattle.ea_machine.specs.Owners.{word_of}
 use Rattle.ea_machine.specs.Rows.{BusyTry, FetchTry, Look, Lost, Saw, Won}
-use Rattle.ea_machine.specs.Setup.{Setup, setup_of}
+use Rattle.ea_machine.specs.Setup.{setup_of}
 use Rattle.ea_machine.specs.Shared.{Shared}
 use Rattle.ea_machine.specs.State.{State}
 use Rattle.ea_machine.specs.Table.{answer, tried_at, won_if}
-use Rattle.ea_sound.specs.Present.{Fits, HasEmployer, HasOther, StillPooled}
-use Rattle.ea_sound.proofs.Asked.{reached-rule}
 
 -- the place of a carrier that is employed by its word
 employed-at : (i : ℕ) (p : CarrierAt) → word_of p ≡ word.Employed i → p ≡ Employed i
@@ -75,53 +69,9 @@ pub record NamesEmployer (v : OwnerWord) : Type 0 where
   pub there : v ≢ word.Absent
   pub stays : (i : ℕ) → v ≢ word.Returning i
 
-employer-named : (me : ℕ) (p : CarrierAt) → HasEmployer me p → NamesEmployer (word_of p)
-employer-named me Absent has = absurd has
-employer-named me (Employed i) has = record { there = λ q. cc; stays = λ j q. cc }
-employer-named me (Pooled i g x) has = record { there = λ q. cc; stays = λ j q. cc }
-employer-named me (Busy i) has = record { there = λ q. cc; stays = λ j q. cc }
-employer-named me (Returning i x) has = absurd has
-
-other-named : (me : ℕ) (p : CarrierAt) → HasOther me p → NamesEmployer (word_of p)
-other-named me Absent has = absurd has
-other-named me (Employed i) has = record { there = λ q. cc; stays = λ j q. cc }
-other-named me (Pooled i g x) has = record { there = λ q. cc; stays = λ j q. cc }
-other-named me (Busy i) has = record { there = λ q. cc; stays = λ j q. cc }
-other-named me (Returning i x) has = absurd has
-
-still-named : (me : ℕ) (seen : OwnerWord) (p : CarrierAt) → StillPooled me seen p
-    → NamesEmployer (word_of p)
-still-named me seen p (same, (g, is)) = subst NamesEmployer (sym (same ∙ is))
-    (record { there = λ q. cc; stays = λ j q. cc })
-
 module _ (c : Config) (t : Trace) (valid : IsValidConfig c)
     (made : IsValidTrace c.schedulers t) (w : State) (reached : IsReached (setup_of c t) w)
     (me : ℕ) (number : IsScheduler c.schedulers me) (why : Why) (gone : Gone) (hand : Named) where
-  abbrev e : Setup
-  e = setup_of c t
-
-  abbrev a : Actor
-  a = w.actors me
 
   abbrev there : CarrierAt
   there = w.shared.places hand.spot.carrier
-
-  fits : (stage : Stage Content) → a.stage ≡ stage → Fits e w me a stage
-  fits stage now = subst (Fits e w me a) now
-      ((reached-rule c t valid made w reached).present.fits me)
-
-  pub saw-named : a.stage ≡ Routed (Looking hand) why gone → (v : OwnerWord)
-      → answer me (Look hand.spot.carrier) w.shared ≡ Saw v → NamesEmployer v
-  saw-named now v saw =
-      subst NamesEmployer (saw-word me hand.spot.carrier w.shared v saw)
-      (employer-named me there (fits (Routed (Looking hand) why gone) now).0.0)
-
-  pub lost-named : (seen : OwnerWord) → a.stage ≡ Routed (Trying hand seen) why gone
-      → (v : OwnerWord) → answer me (BusyTry hand.spot.carrier seen) w.shared ≡ Lost v
-      → NamesEmployer v
-  lost-named seen now v lost =
-      subst NamesEmployer (busy-lost me hand.spot.carrier w.shared seen v lost)
-      (elim (fits (Routed (Trying hand seen) why gone) now).0 [
-        | inl still ↦ still-named me seen there still
-        | inr other ↦ other-named me there other
-      ])

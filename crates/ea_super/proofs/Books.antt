@@ -1,18 +1,14 @@
 -- A book of sections is one of the lists of their requests.
 use Rattle.std.proofs.Common.{zero, suc, ◌≡◌, ℕ, ◌<◌, List, [], ◌∷◌, length, map, All, refl}
-use Rattle.std.proofs.Common.{true, rules, tests, sym, subst, ◌∙◌}
+use Rattle.std.proofs.Common.{sym, subst, ◌∙◌}
 use Rattle.std.proofs.lemmas.List.{length-map}
-use Rattle.std.proofs.lemmas.List.Elements.{All-from_recursion, recursion_from_All}
-use Rattle.std.specs.List.{AllByRecursion}
 use Rattle.std.specs.Prelude.{slice_index_or}
 use Rattle.ea_model.specs.Lists.{Items}
 use Rattle.ea_model.specs.Trace.{listed}
 use Rattle.ea_segments.specs.Histories.{IsByOneOf}
-use Rattle.ea_segments.specs.Requests.{IsBookOf, IsRequest}
+use Rattle.ea_segments.specs.Requests.{IsBookOf}
 use Rattle.ea_segments.specs.declared.calls.Book.{Book}
 use Rattle.ea_segments.specs.declared.calls.Request.{Request}
-use Rattle.ea_segments.specs.declared.calls.Request.TheVariants.{Back, Take}
-use Rattle.ea_super.specs.Asked.{AsksPages, asks_pages}
 use Rattle.ea_super.specs.Reading.{all_of}
 
 -- the same lists, without their room
@@ -44,21 +40,3 @@ book-of-plain total sections book h = record {
 }
 
 -- what asks for pages is a request
-
-request-of : (q : Request) → asks_pages q ≡ true → IsRequest q
-request-of (Take name pages) h = search (rules, tests)
-request-of (Back name) h = tt
-
-requests-by : (qs : List Request) → AllByRecursion (λ q. asks_pages q ≡ true) qs
-    → AllByRecursion IsRequest qs
-requests-by [] h = tt
-requests-by (q ∷ qs) h = (request-of q h.0, requests-by qs h.1)
-
-requests-of : (qs : List Request) → AsksPages qs → All IsRequest qs
-requests-of qs h = All-from_recursion IsRequest qs
-    (requests-by qs (recursion_from_All (λ q. asks_pages q ≡ true) qs h))
-
-sections-by : (ss : List (Items Request)) → AllByRecursion (λ s. AsksPages s.items) ss
-    → AllByRecursion (λ s. All IsRequest s.items) ss
-sections-by [] h = tt
-sections-by (s ∷ ss) h = (requests-of s.items h.0, sections-by ss h.1)

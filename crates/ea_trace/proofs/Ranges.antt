@@ -58,11 +58,6 @@ module _ {X Y : Type 0} where
   chained f (Some x) R g = g x
 
 module _ {X : Type 0} where
-  either : (b : Bool) (x y : Option X) (P : X → Type 0) → IfSome x P → IfSome y P
-      → IfSome (if b then x else y) P
-  either true x y P h k = h
-  either false x y P h k = k
-
   paired : (f : ℕ → ℕ → X) (a b : Option ℕ) (P Q : ℕ → Type 0) (R : X → Type 0) → IfSome a P
       → IfSome b Q → ((x y : ℕ) → P x → Q y → R (f x y)) → IfSome (pair f a b) R
   paired f None b P Q R h k g = tt
