@@ -1,23 +1,12 @@
--- What the answers of a look and of a try tell of a carrier's place, and which words they can show
--- of the carrier of a block in the hand: one that has an employer.
-use Rattle.std.proofs.Common.{◌≡◌, ◌≢◌, ℕ, Bool, true, false, ap}
-use Rattle.ea_model.specs.declared.settings.Config.{Config}
-use Rattle.ea_model.specs.declared.trace.Trace.{Trace}
+-- What the answers of a look and of a try tell of a carrier's place.
+use Rattle.std.proofs.Common.{◌≡◌, ℕ, Bool, true, false, ap}
 use Rattle.ea_model.specs.Content.{Content}
-use Rattle.ea_model.specs.Settings.{IsValidConfig}
-use Rattle.ea_model.specs.Trace.{IsScheduler, IsValidTrace}
-use Rattle.ea_machine.specs.declared.nodes.Named.{Named}
 use Rattle.ea_machine.specs.declared.owners.OwnerWord.{OwnerWord}
 use Rattle.ea_machine.specs.declared.owners.OwnerWord.TheVariants as word
-use Rattle.ea_machine.specs.declared.tasks.Gone.{Gone}
-use Rattle.ea_machine.specs.declared.tasks.Why.{Why}
-use Rattle.ea_machine.specs.Machine.{IsReached}
 use Rattle.ea_machine.specs.Owners.{CarrierAt, Absent, Busy, Employed, Pooled, Returning, same_word}
 use Rattle.ea_machine.specs.Owners.{word_of}
 use Rattle.ea_machine.specs.Rows.{BusyTry, FetchTry, Look, Lost, Saw, Won}
-use Rattle.ea_machine.specs.Setup.{setup_of}
 use Rattle.ea_machine.specs.Shared.{Shared}
-use Rattle.ea_machine.specs.State.{State}
 use Rattle.ea_machine.specs.Table.{answer, tried_at, won_if}
 
 -- the place of a carrier that is employed by its word
@@ -63,15 +52,3 @@ module _ (me n : ℕ) (s : Shared) where
       → word_of (s.places n) ≡ v
   unfolding answer
   busy-lost seen v lost = lost-word seen v (s.places n) lost
-
--- a word that names the employer of a carrier
-pub record NamesEmployer (v : OwnerWord) : Type 0 where
-  pub there : v ≢ word.Absent
-  pub stays : (i : ℕ) → v ≢ word.Returning i
-
-module _ (c : Config) (t : Trace) (valid : IsValidConfig c)
-    (made : IsValidTrace c.schedulers t) (w : State) (reached : IsReached (setup_of c t) w)
-    (me : ℕ) (number : IsScheduler c.schedulers me) (why : Why) (gone : Gone) (hand : Named) where
-
-  abbrev there : CarrierAt
-  there = w.shared.places hand.spot.carrier
