@@ -93,14 +93,12 @@ module _ (c : Config) (t : Trace) (valid : IsValidConfig c)
 
     -- the old block is held, under a name of the trace
     module _ (old : Named) (of : ask.old ≡ Some old) where
-
       pub asked-old_name : IsNameOf t old.name
       asked-old_name = old-by ask a.todo refl asked.of old of
 
   -- before a try to fetch
   module _ (ask : Ask) (n : ℕ) (part : Part) (seen : OwnerWord)
       (now : a.stage ≡ Fetching ask n part seen) where
-
     -- there is a choice with what it brings
     pub fetched-chosen : (x : Content) → tried_at seen (w.shared.places n) ≡ Won x
         → (spot : Spot) × (chosen_spot (employing a.instance x) ask.need ≡ Some spot)

@@ -61,7 +61,6 @@ module _ (c : Config) (t : Trace) (valid : IsValidConfig c)
 
   module _ (why : Why) (gone : Gone) (hand : Named) (now : a.stage ≡ Routed (Looking hand) why gone)
       (mine : w.shared.places hand.spot.carrier ≡ Employed me) where
-
     block : HasBlock a.instance hand.name hand.spot
     block = look-block c t valid made w reached me number why gone hand now mine
 
