@@ -8,26 +8,17 @@ use Rattle.ea_model.specs.declared.trace.Mode.{Mode}
 use Rattle.ea_model.specs.declared.trace.Mode.TheVariants.{Threads, Schedule, Generated}
 use Rattle.ea_model.specs.declared.trace.Trace.{Trace}
 use Rattle.ea_model.specs.Outcome.{logs_of, plain_outcome}
-use Rattle.ea_model.specs.Settings.{IsValidConfig, region_pages, settings_of}
-use Rattle.ea_model.specs.Trace.{IsValidTrace, listed, plain, plain_mode, stop_in}
-use Rattle.ea_model.proofs.Traces.{plain-texts}
+use Rattle.ea_model.specs.Settings.{IsValidConfig}
+use Rattle.ea_model.specs.Trace.{IsValidTrace, listed, plain, plain_mode}
 use Rattle.ea_machine.specs.Completion.{course_of}
 use Rattle.ea_machine.specs.Courses.{IsCourse}
 use Rattle.ea_machine.specs.Outcome.{outcome, outcome_of}
-use Rattle.ea_machine.specs.Setup.{Setup, setup_of, text_for}
+use Rattle.ea_machine.specs.Setup.{Setup, setup_of}
 use Rattle.ea_top.specs.Output.{IsRunOutcome, IsRunText, filled_by, outcome_after, run_setup}
 use Rattle.ea_top.specs.Output.{text_by}
 use Rattle.ea_sound.proofs.Protocols.{always-protocol}
-use Rattle.ea_top.proofs.Valid.{filled-valid, plain-valid}
-
-same_setup : (c : Config) (t : Trace) → setup_of c (plain t) ≡ setup_of c t
-same_setup c t = ap (λ texts. record {
-  schedulers = c.schedulers;
-  settings = settings_of c t.letter;
-  pages = region_pages c;
-  texts = text_for texts;
-  stops = stop_in t.stops.items;
-}) (plain-texts t)
+use Rattle.ea_given.proofs.Plain.{same-setup, valid-plain}
+use Rattle.ea_top.proofs.Valid.{filled-valid}
 
 same_end : (setup : Setup) (m : Mode) → course_of setup (plain_mode m) ≡ course_of setup m
 same_end setup Threads = refl
@@ -38,7 +29,7 @@ same_end setup (Generated seed count) = refl
 pub made-outcome : (c : Config) (made t : Trace) (o : Outcome) → plain made ≡ t
     → o ≡ outcome_of c made → o ≡ outcome_of c t
 made-outcome c made t o is e = e
-    ∙ ap (λ setup. outcome setup (course_of setup made.mode)) (sym (same_setup c made))
+    ∙ ap (λ setup. outcome setup (course_of setup made.mode)) (sym (same-setup c made))
     ∙ ap (outcome (setup_of c (plain made)))
     (sym (same_end (setup_of c (plain made)) made.mode))
     ∙ ap (outcome_of c) is
@@ -47,8 +38,8 @@ made-outcome c made t o is e = e
 same_filled : (c : Config) (t : Trace) (m : Mode)
     → setup_of c (filled_by c.schedulers (plain t) (plain_mode m))
     ≡ setup_of c (filled_by c.schedulers t m)
-same_filled c t Threads = same_setup c t
-same_filled c t (Schedule turns) = same_setup c t
+same_filled c t Threads = same-setup c t
+same_filled c t (Schedule turns) = same-setup c t
 same_filled c t (Generated seed count) = refl
 
 same_run : (c : Config) (t : Trace) → run_setup c (plain t) ≡ run_setup c t
@@ -85,7 +76,7 @@ pub run-text : (c : Config) (t : Trace) (o : Outcome) → IsValidConfig c
     → IsValidTrace c.schedulers t → IsRunOutcome c t (plain_outcome o)
     → IsRunText c (plain t) (text_by t.mode o)
 run-text c t o config trace h =
-    let valid = filled-valid c.schedulers t t.mode trace.mode (plain-valid c.schedulers t trace) in
+    let valid = filled-valid c.schedulers t t.mode trace.mode (valid-plain c.schedulers t trace) in
     record {
       turns = h.0;
       course = same_course c t h.0 h.1;
