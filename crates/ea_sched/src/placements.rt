@@ -42,7 +42,7 @@ fn failed(ask: Ask, looked: u32, why: NoCarrier) -> Entry<Reports>
 impl<'t> Scheduler<'t> {
     /// The block was placed, and its name is held: an allocation is over, and of a reallocation the
     /// old block goes.
-    fn stand(&mut self, ask: Ask, place: Place)
+    fn placed(&mut self, ask: Ask, place: Place)
         requires more { HasMore self.old }
         requires asked { IsAsked self.old.instance self.old ask }
         ensures actor { actor_of self.new ≡ placements.stands (setup_for self.old)
@@ -80,7 +80,7 @@ impl<'t> Scheduler<'t> {
         ensures same { IsSame self.old self.new }
     {
         match self.instance.try_alloc(ask.need, ask.name) {
-            Some(place) => self.stand(ask, place),
+            Some(place) => self.placed(ask, place),
             None => unreachable!(),
         }
     }
@@ -96,7 +96,7 @@ impl<'t> Scheduler<'t> {
         ensures same { IsSame self.old self.new }
     {
         let place = self.instance.create_single(plan, ask.need, ask.name);
-        self.stand(ask, place);
+        self.placed(ask, place);
     }
 
     /// Employs the multiblock carrier of the plan, and places the block where the strategy chooses
@@ -157,7 +157,12 @@ impl<'t> Scheduler<'t> {
 
     /// Has the carrier of the plan created. The memory of a multiblock carrier is taken now, before
     /// anything changes.
-    fn plan(&mut self, alloc: Global, ask: Ask, plan: CarrierPlan) -> Result<(), OutOfMemory>
+    fn prepare_planned(
+        &mut self,
+        alloc: Global,
+        ask: Ask,
+        plan: CarrierPlan,
+    ) -> Result<(), OutOfMemory>
         requires more { HasMore self.old }
         requires asked { IsAsked self.old.instance self.old ask }
         requires plan { instances.plan self.old.instance ask.need ≡ Ok plan }
@@ -200,7 +205,7 @@ impl<'t> Scheduler<'t> {
         ensures same { IsSame self.old self.new }
     {
         match self.instance.plan_carrier(ask.need, alone) {
-            Ok(plan) => self.plan(alloc, ask, plan),
+            Ok(plan) => self.prepare_planned(alloc, ask, plan),
             Err(why) => {
                 self.finish(failed(ask, looked, why));
                 Ok(())
@@ -248,7 +253,7 @@ impl<'t> Scheduler<'t> {
         }
         match self.instance.try_alloc(ask.need, ask.name) {
             Some(place) => {
-                self.stand(ask, place);
+                self.placed(ask, place);
                 Ok(())
             }
             None => self.seek_beyond(alloc, ask),

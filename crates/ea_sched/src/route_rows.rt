@@ -38,7 +38,7 @@ impl<'t> Scheduler<'t> {
 
     /// A try to make the pooled carrier of the block busy: if it is won, the block is released in
     /// it.
-    pub(crate) fn try_busy<S: Shared<Content = Mbc>>(
+    pub(crate) fn busy_try<S: Shared<Content = Mbc>>(
         &self,
         shared: &mut S,
         hand: Named,

@@ -34,7 +34,7 @@ impl<'t> Scheduler<'t> {
     {
         match route {
             Route::Looking { hand } => self.look(shared, hand, gone),
-            Route::Trying { hand, seen } => self.try_busy(shared, hand, seen, gone),
+            Route::Trying { hand, seen } => self.busy_try(shared, hand, seen, gone),
             Route::Settling { content } => self.settle(shared, content, gone),
             Route::Abandoning { content } => self.abandon(shared, content, gone),
             Route::Sending { content } => self.send_home(shared, content, gone),

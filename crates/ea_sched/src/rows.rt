@@ -17,7 +17,7 @@ use std::alloc::Global;
 
 impl<'t> Scheduler<'t> {
     /// An operation begins: the scheduler takes its queue, and walks it from its newest node on.
-    pub(crate) fn take_queue<S: Shared<Content = Mbc>>(
+    pub(crate) fn take_all<S: Shared<Content = Mbc>>(
         &mut self,
         alloc: Global,
         shared: &mut S,
@@ -32,7 +32,7 @@ impl<'t> Scheduler<'t> {
         ensures memory { OnErr result (PlansAt stage.Begin self.old (S.told shared.old)) }
     {
         match shared.take_all(self.number) {
-            None => self.go_on(alloc),
+            None => self.operate_next(alloc),
             Some(newest) => {
                 self.next = Some(newest);
                 Ok(())
@@ -42,7 +42,7 @@ impl<'t> Scheduler<'t> {
 
     /// The walk goes on with its next node; where that isn't linked yet, the walk rests until the
     /// next operation begins.
-    pub(crate) fn pass<S: Shared<Content = Mbc>>(
+    pub(crate) fn take_link<S: Shared<Content = Mbc>>(
         &mut self,
         alloc: Global,
         shared: &mut S,
@@ -58,7 +58,7 @@ impl<'t> Scheduler<'t> {
         ensures memory { OnErr result (PlansAt stage.Begin self.old (S.told shared.old)) }
     {
         match shared.take_link(self.number, node) {
-            Link::Rest => self.go_on(alloc),
+            Link::Rest => self.operate_next(alloc),
             Link::End => {
                 self.passed.add(node);
                 self.next = None;
@@ -119,7 +119,7 @@ impl<'t> Scheduler<'t> {
     }
 
     /// One try to take the name.
-    pub(crate) fn try_take<S: Shared<Content = Mbc>>(
+    pub(crate) fn take_try<S: Shared<Content = Mbc>>(
         &mut self,
         shared: &mut S,
         name: u32,

@@ -51,8 +51,8 @@ impl<'t> Scheduler<'t> {
     {
         match mem::replace(&mut self.stage, Stage::Begin) {
             Stage::Begin => match self.next {
-                None => self.take_queue(alloc, shared),
-                Some(node) => self.pass(alloc, shared, node),
+                None => self.take_all(alloc, shared),
+                Some(node) => self.take_link(alloc, shared, node),
             },
             Stage::Routed { route, why, gone } => self.go_route(alloc, shared, route, why, gone),
             Stage::Collecting { number } => self.receive(alloc, shared, number),
@@ -71,7 +71,7 @@ impl<'t> Scheduler<'t> {
                 Ok(())
             }
             Stage::Taking { name, tries, left } => {
-                self.try_take(shared, name, tries, left);
+                self.take_try(shared, name, tries, left);
                 Ok(())
             }
             Stage::Searching { .. } | Stage::Ended | Stage::Ready => unreachable!(),

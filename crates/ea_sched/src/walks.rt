@@ -9,7 +9,7 @@ ghost use Rattle.ea_sched.specs.Passing.{stage_for};
 ghost use Rattle.ea_sound.specs.Walking.{CanAllGo, worked};
 
 use crate::passed::Passed;
-use crate::releases::release;
+use crate::releases::release_if_owned;
 use crate::state::Scheduler;
 use ea_instance::{Held, Instance};
 use ea_machine::{Gone, Named, Node, Route, Stage, Why};
@@ -32,7 +32,7 @@ fn work_off(passed: &mut Passed, instance: &mut Instance, me: u32) -> Option<Nam
             Node::Block { name, spot } => (name, spot),
             Node::Carrier { .. } => unreachable!(),
         };
-        if !release(instance, me, spot) {
+        if !release_if_owned(instance, me, spot) {
             return Some(Named { name, spot });
         }
     }
@@ -57,7 +57,7 @@ fn stage_of(node: Node) -> Stage<Held>
 
 impl<'t> Scheduler<'t> {
     /// Does the operation itself, once its begin is over; where none is left, its text is done.
-    pub(crate) fn go_on(&mut self, alloc: Global) -> Result<(), OutOfMemory>
+    pub(crate) fn operate_next(&mut self, alloc: Global) -> Result<(), OutOfMemory>
         requires next { SuitsNext self.old.instance self.old }
         requires counts { CanCount self.old.instance }
         ensures actor { OnOk result (actor_of self.new ≡ machine.onward (setup_for self.old)
@@ -91,7 +91,7 @@ impl<'t> Scheduler<'t> {
         ensures same { IsSame self.old self.new }
     {
         match self.passed.take_oldest() {
-            None => self.go_on(alloc),
+            None => self.operate_next(alloc),
             Some(node) => {
                 self.stage = stage_of(node);
                 Ok(())
@@ -115,7 +115,7 @@ impl<'t> Scheduler<'t> {
         ensures same { IsSame self.old self.new }
     {
         match work_off(&mut self.passed, &mut self.instance, self.number) {
-            None => self.go_on(alloc),
+            None => self.operate_next(alloc),
             Some(hand) => {
                 self.send(hand, Why::Walk);
                 Ok(())

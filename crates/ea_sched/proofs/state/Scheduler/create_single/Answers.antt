@@ -4,8 +4,8 @@ use Rattle.ea_model.specs.Instance.{Instance, employed, own_at}
 use Rattle.ea_sched.proofs.OwnCarriers.{asked-again, created-own, placed-block}
 use Rattle.ea_sched.proofs.state.Scheduler.create_single.Goals as goal
 
-pub stand-requires-clause-asked : goal.stand-requires-clause-asked
-stand-requires-clause-asked c =
+pub placed-requires-clause-asked : goal.placed-requires-clause-asked
+placed-requires-clause-asked c =
     let s = c.args.self.now in
     let ask = c.args.ask in
     let new = c.create_single-place.new.self in

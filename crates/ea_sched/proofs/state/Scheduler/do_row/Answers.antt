@@ -23,16 +23,16 @@ make-requires-clause-prepared g c = c.args.self.now.is_prepared c.in-Creating.as
     c.in-Creating.plan (sym c.replace.ensures.value ∙ c.in-Creating.is)
 
 pub returns-in-None-clause-row : goal.returns-in-None-clause-row
-returns-in-None-clause-row g c = on_ok_weaker c.take_queue.result
-    (restaged c.args.self.now _ c.take_queue.new.self Begin c.args.self.now.stage
+returns-in-None-clause-row g c = on_ok_weaker c.take_all.result
+    (restaged c.args.self.now _ c.take_all.new.self Begin c.args.self.now.stage
     (sym c.in-Begin.is ∙ c.replace.ensures.value) refl refl refl refl)
-    c.take_queue.ensures.row
+    c.take_all.ensures.row
 
 pub returns-in-Some-clause-row : goal.returns-in-Some-clause-row
-returns-in-Some-clause-row g c = on_ok_weaker c.pass.result
-    (restaged c.args.self.now _ c.pass.new.self Begin c.args.self.now.stage
+returns-in-Some-clause-row g c = on_ok_weaker c.take_link.result
+    (restaged c.args.self.now _ c.take_link.new.self Begin c.args.self.now.stage
     (sym c.in-Begin.is ∙ c.replace.ensures.value) refl refl refl refl)
-    c.pass.ensures.row
+    c.take_link.ensures.row
 
 pub returns-in-Routed-clause-row : goal.returns-in-Routed-clause-row
 returns-in-Routed-clause-row g c = on_ok_weaker c.go_route.result
@@ -63,16 +63,16 @@ returns-in-Creating-clause-row g c =
     (sym c.in-Creating.is ∙ c.replace.ensures.value) refl refl refl refl c.make.ensures.row
 
 pub returns-in-None-clause-memory : goal.returns-in-None-clause-memory
-returns-in-None-clause-memory g c = on_err_weaker c.take_queue.result
+returns-in-None-clause-memory g c = on_err_weaker c.take_all.result
     (restaged-plans c.args.self.now Begin
     c.args.self.now.stage (sym c.in-Begin.is ∙ c.replace.ensures.value))
-    c.take_queue.ensures.memory
+    c.take_all.ensures.memory
 
 pub returns-in-Some-clause-memory : goal.returns-in-Some-clause-memory
-returns-in-Some-clause-memory g c = on_err_weaker c.pass.result
+returns-in-Some-clause-memory g c = on_err_weaker c.take_link.result
     (restaged-plans c.args.self.now Begin
     c.args.self.now.stage (sym c.in-Begin.is ∙ c.replace.ensures.value))
-    c.pass.ensures.memory
+    c.take_link.ensures.memory
 
 pub returns-in-Routed-clause-memory : goal.returns-in-Routed-clause-memory
 returns-in-Routed-clause-memory g c = on_err_weaker c.go_route.result

@@ -15,13 +15,13 @@ returns-clause-actor c =
     let (spot, chosen, is, new) = chosen-place s.instance c.try_alloc.new.self
     (chosen_spot s.instance ask.need) ask.need ask.name c.in-Some.place
     (sym c.try_alloc.ensures.place ∙ c.in-Some.is) c.try_alloc.ensures.placed in
-    c.stand.ensures.actor
+    c.placed.ensures.actor
     ∙ stood-placed (setup_for s) s.number (ready_of s) ask c.try_alloc.new.self spot
     c.in-Some.place is new
     ∙ sym (ap (placed_by (setup_for s) s.number ask (ready_of s)) chosen)
 
-pub stand-requires-clause-asked : goal.stand-requires-clause-asked
-stand-requires-clause-asked c =
+pub placed-requires-clause-asked : goal.placed-requires-clause-asked
+placed-requires-clause-asked c =
     let s = c.args.self.now in
     let ask = c.args.ask in
     let new = c.try_alloc.new.self in

@@ -10,8 +10,8 @@ use Rattle.ea_sound.proofs.Creations.{worked-created}
 use Rattle.ea_sound.proofs.Walked.{walked-none, walked-some}
 use Rattle.ea_sched.proofs.state.Scheduler.work_all.Goals as goal
 
-pub go_on-requires : goal.go_on-requires
-go_on-requires c =
+pub operate_next-requires : goal.operate_next-requires
+operate_next-requires c =
     let s = c.args.self.now in
     let is = c.work_off.ensures in
     let none : (worked s.number s.instance s.passed.nodes).hand ≡ None =
@@ -28,13 +28,13 @@ returns-in-None-clause-actor c =
     let s = c.args.self.now in
     let i = c.work_off.new.instance in
     let left = c.work_off.new.passed.nodes in
-    on_ok_weaker c.go_on.result (λ is at. is
+    on_ok_weaker c.operate_next.result (λ is at. is
     ∙ ap (onward (setup_for s) s.number)
     (walked-none (setup_for s) s.number (sym s.migrates_so ∙ c.requires.off) (standing_at at s)
     s.passed.nodes (c.requires.walk.passed c.requires.off) i left
     (ap (λ hand. record { instance = i; left = left; hand = hand }) (sym c.in-None.is)
     ∙ c.work_off.ensures)))
-    c.go_on.ensures.actor
+    c.operate_next.ensures.actor
 
 pub returns-in-Some-clause-actor : goal.returns-in-Some-clause-actor
 returns-in-Some-clause-actor c =
@@ -55,11 +55,11 @@ returns-in-None-clause-memory c =
     let left = c.work_off.new.passed.nodes in
     let same = ap (λ (w : Worked). w.instance.created) c.work_off.ensures
     ∙ worked-created s.number s.passed.nodes s.instance in
-    on_err_weaker c.go_on.result (λ is at. subst (PlansFrom s)
+    on_err_weaker c.operate_next.result (λ is at. subst (PlansFrom s)
     (ap (onward (setup_for s) s.number)
     (walked-none (setup_for s) s.number (sym s.migrates_so ∙ c.requires.off) (standing_at at s)
     s.passed.nodes (c.requires.walk.passed c.requires.off) i left
     (ap (λ hand. record { instance = i; left = left; hand = hand }) (sym c.in-None.is)
     ∙ c.work_off.ensures)))
     (planned-from i s.instance _ same is))
-    c.go_on.ensures.memory
+    c.operate_next.ensures.memory

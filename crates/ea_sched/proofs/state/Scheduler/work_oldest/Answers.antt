@@ -7,8 +7,8 @@ use Rattle.ea_sched.specs.Creations.{PlansFrom}
 use Rattle.ea_sched.proofs.Placing.{worked-on}
 use Rattle.ea_sched.proofs.state.Scheduler.work_oldest.Goals as goal
 
-pub go_on-requires : goal.go_on-requires
-go_on-requires c = record {
+pub operate_next-requires : goal.operate_next-requires
+operate_next-requires c = record {
   next = c.requires.walk.next_on c.requires.on c.in-None.ensures.0;
   counts = c.requires.counts;
 }
@@ -16,12 +16,12 @@ go_on-requires c = record {
 pub returns-in-None-clause-actor : goal.returns-in-None-clause-actor
 returns-in-None-clause-actor c =
     let s = c.args.self.now in
-    on_ok_weaker c.go_on.result (λ is at. is
+    on_ok_weaker c.operate_next.result (λ is at. is
     ∙ ap (λ ns. onward (setup_for s) s.number
     (ready (record (standing_at at s) { passed = ns }))) c.in-None.ensures.1
     ∙ sym (ap (λ ns. onward (setup_for s) s.number
     (worked_off (setup_for s) s.number ns (standing_at at s))) c.in-None.ensures.0))
-    c.go_on.ensures.actor
+    c.operate_next.ensures.actor
 
 pub returns-in-Some-clause-actor : goal.returns-in-Some-clause-actor
 returns-in-Some-clause-actor c =
@@ -36,9 +36,9 @@ returns-in-Some-clause-actor c =
 pub returns-in-None-clause-memory : goal.returns-in-None-clause-memory
 returns-in-None-clause-memory c =
     let s = c.args.self.now in
-    on_err_weaker c.go_on.result (λ is at. subst (PlansFrom s)
+    on_err_weaker c.operate_next.result (λ is at. subst (PlansFrom s)
     (ap (λ ns. onward (setup_for s) s.number
     (ready (record (standing_at at s) { passed = ns }))) c.in-None.ensures.1
     ∙ sym (ap (λ ns. onward (setup_for s) s.number
     (worked_off (setup_for s) s.number ns (standing_at at s))) c.in-None.ensures.0)) is)
-    c.go_on.ensures.memory
+    c.operate_next.ensures.memory

@@ -3,7 +3,7 @@ use Rattle.ea_machine.specs.declared.stages.Stage.TheVariants.{Taking}
 use Rattle.ea_machine.specs.Rows.{Got, TakeTry}
 use Rattle.ea_sched.specs.Acting.{setup_for, standing_at}
 use Rattle.ea_sched.proofs.Calling.{onward-took, row-done, take-fresh, take-more, take-name}
-use Rattle.ea_sched.proofs.state.Scheduler.try_take.Goals as goal
+use Rattle.ea_sched.proofs.state.Scheduler.take_try.Goals as goal
 
 pub take_try-found-requires-clause-name : goal.take_try-found-requires-clause-name
 take_try-found-requires-clause-name g c =

@@ -3,7 +3,7 @@ use Rattle.ea_machine.specs.declared.tasks.Task.TheVariants.{Moving}
 use Rattle.ea_machine.specs.Placements.{holding, spot_of_place, stands}
 use Rattle.ea_machine.specs.Tasks.{hands_over}
 use Rattle.ea_sched.specs.Acting.{ready_of, setup_for}
-use Rattle.ea_sched.proofs.state.Scheduler.stand.Goals as goal
+use Rattle.ea_sched.proofs.state.Scheduler.placed.Goals as goal
 
 pub returns-in-Some-clause-actor : goal.returns-in-Some-clause-actor
 returns-in-Some-clause-actor c =

@@ -1,7 +1,7 @@
 use Rattle.std.proofs.Common.{◌+◌, drop, slice_index_or}
 use Rattle.std.proofs.lemmas.List.{drop_more}
 use Rattle.ea_model.specs.declared.operations.Op.TheVariants.{Alloc}
-use Rattle.ea_sched.proofs.state.Scheduler.go_on.Goals as goal
+use Rattle.ea_sched.proofs.state.Scheduler.operate_next.Goals as goal
 
 pub operate-requires-clause-fits : goal.operate-requires-clause-fits
 operate-requires-clause-fits c =

@@ -7,7 +7,7 @@ use Rattle.ea_sched.specs.Acting.{actor_of}
 use Rattle.ea_sched.proofs.Calling.{as-node, ended-plans, pass-few, pass-next, pass-node}
 use Rattle.ea_sched.proofs.Calling.{passed-ended, passed-next, passed-works}
 use Rattle.ea_sched.proofs.Calling.{ready-counts, rests-suits, row-done, row-plans}
-use Rattle.ea_sched.proofs.state.Scheduler.pass.Goals as goal
+use Rattle.ea_sched.proofs.state.Scheduler.take_link.Goals as goal
 
 pub take_link-requires-clause-node : goal.take_link-requires-clause-node
 take_link-requires-clause-node g c = as-node c.args.node c.requires.starts.schedulers
@@ -25,8 +25,8 @@ pub add-requires-in-Next : goal.add-requires-in-Next
 add-requires-in-Next g c = pass-few c.args.self.now c.requires.starts.ready c.args.node
     c.requires.next
 
-pub go_on-requires : goal.go_on-requires
-go_on-requires g c = record {
+pub operate_next-requires : goal.operate_next-requires
+operate_next-requires g c = record {
   next = rests-suits c.args.self.now c.requires.starts.ready c.args.node refl
       c.requires.next
       c.in-Rest.ensures.row;
@@ -45,10 +45,10 @@ end_walk-requires-clause-counts g c = ready-counts c.args.self.now c.requires.st
 pub returns-in-Rest-clause-row : goal.returns-in-Rest-clause-row
 returns-in-Rest-clause-row g c =
     let s = c.args.self.now in
-    on_ok_weaker c.go_on.result
+    on_ok_weaker c.operate_next.result
     (λ is. row-done s c.requires.starts.ready TakeLink Rests Begin refl
     (ap begins c.requires.next) c.in-Rest.ensures.row is)
-    c.go_on.ensures.actor
+    c.operate_next.ensures.actor
 
 pub returns-in-End-clause-row : goal.returns-in-End-clause-row
 returns-in-End-clause-row g c = on_ok_weaker c.end_walk.result
@@ -70,10 +70,10 @@ returns-in-Next-clause-row g c = passed-next c.args.self.now c.requires.starts.r
     }) c.requires.stage)
 
 pub returns-in-Rest-clause-memory : goal.returns-in-Rest-clause-memory
-returns-in-Rest-clause-memory g c = on_err_weaker c.go_on.result
+returns-in-Rest-clause-memory g c = on_err_weaker c.operate_next.result
     (row-plans c.args.self.now c.requires.starts.ready TakeLink Rests Begin refl refl
     refl (ap begins c.requires.next) c.in-Rest.ensures.row)
-    c.go_on.ensures.memory
+    c.operate_next.ensures.memory
 
 pub returns-in-End-clause-memory : goal.returns-in-End-clause-memory
 returns-in-End-clause-memory g c = on_err_weaker c.end_walk.result

@@ -7,23 +7,23 @@ use Rattle.ea_machine.specs.Rows.{Head, TakeAll}
 use Rattle.ea_sched.specs.Acting.{actor_of}
 use Rattle.ea_sched.proofs.Calling.{ready-counts, row-done, row-plans, take-walked}
 use Rattle.ea_sched.proofs.Calling.{taken-suits}
-use Rattle.ea_sched.proofs.state.Scheduler.take_queue.Goals as goal
+use Rattle.ea_sched.proofs.state.Scheduler.take_all.Goals as goal
 
 pub take_all-requires-clause-walked : goal.take_all-requires-clause-walked
 take_all-requires-clause-walked g c = take-walked c.args.self.now c.requires.starts.ready
     c.requires.next
 
-pub go_on-requires : goal.go_on-requires
-go_on-requires g c = record {
+pub operate_next-requires : goal.operate_next-requires
+operate_next-requires g c = record {
   next = taken-suits c.args.self.now c.requires.starts.ready refl c.requires.next;
   counts = ready-counts c.args.self.now c.requires.starts.ready;
 }
 
 pub returns-in-None-clause-row : goal.returns-in-None-clause-row
-returns-in-None-clause-row g c = on_ok_weaker c.go_on.result
+returns-in-None-clause-row g c = on_ok_weaker c.operate_next.result
     (row-done c.args.self.now c.requires.starts.ready TakeAll (Head None) Begin
     refl (ap begins c.requires.next) c.in-None.ensures.row)
-    c.go_on.ensures.actor
+    c.operate_next.ensures.actor
 
 pub returns-in-Some-clause-row : goal.returns-in-Some-clause-row
 returns-in-Some-clause-row g c =
@@ -34,7 +34,7 @@ returns-in-Some-clause-row g c =
     c.requires.stage)
 
 pub returns-in-None-clause-memory : goal.returns-in-None-clause-memory
-returns-in-None-clause-memory g c = on_err_weaker c.go_on.result
+returns-in-None-clause-memory g c = on_err_weaker c.operate_next.result
     (row-plans c.args.self.now c.requires.starts.ready TakeAll (Head None) Begin
     refl refl refl (ap begins c.requires.next) c.in-None.ensures.row)
-    c.go_on.ensures.memory
+    c.operate_next.ensures.memory

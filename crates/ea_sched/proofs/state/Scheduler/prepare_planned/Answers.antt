@@ -8,7 +8,7 @@ use Rattle.ea_sound.proofs.Creations.{plan-birth}
 use Rattle.ea_sound.proofs.Plans.{planned-owner}
 use Rattle.ea_sched.specs.Acting.{ready_of, setup_for}
 use Rattle.ea_sched.proofs.Acts.{at-exit}
-use Rattle.ea_sched.proofs.state.Scheduler.plan.Goals as goal
+use Rattle.ea_sched.proofs.state.Scheduler.prepare_planned.Goals as goal
 
 pub create_in_turn-requires-2-clause-prepared : goal.create_in_turn-requires-2-clause-prepared
 create_in_turn-requires-2-clause-prepared c = λ multi.

@@ -1,6 +1,6 @@
 use Rattle.ea_sched.proofs.CarrierCalling.{try-carrier, try-pooled, won-block}
 use Rattle.ea_sched.proofs.StandsOn.{moves-on}
-use Rattle.ea_sched.proofs.state.Scheduler.try_busy.Goals as goal
+use Rattle.ea_sched.proofs.state.Scheduler.busy_try.Goals as goal
 
 pub busy_try-requires-clause-migrates : goal.busy_try-requires-clause-migrates
 busy_try-requires-clause-migrates g c = moves-on c.args.self.now c.requires.starts.row (λ off. off)
