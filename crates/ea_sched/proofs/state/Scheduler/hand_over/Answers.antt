@@ -31,15 +31,15 @@ returns-then-release-clause-actor c =
     let hand = c.args.hand in
     let task = c.args.task in
     let own : (owner_of hand.spot.carrier == s.number) ≡ true =
-    sym c.release_if_owned.ensures.own ∙ c.if-release_if_owned.true in
+    sym c.release.ensures.own ∙ c.if-release.true in
     c.finish_task.ensures.actor
-    ∙ handed (task_over task Here) (ready_of s) c.release_if_owned.new.instance
+    ∙ handed (task_over task Here) (ready_of s) c.release.new.instance
     (freed_at s.instance hand.spot) c.let_go.new.self.held (without_name hand.name s.names.held)
-    (c.release_if_owned.ensures.left ∙ ap (λ own. left_if own s.instance hand.spot) own)
+    (c.release.ensures.left ∙ ap (λ own. left_if own s.instance hand.spot) own)
     c.let_go.ensures.held
     ∙ sym (released-here (setup_for s) s.number (sym s.migrates_so ∙ c.if-self.false) (For task)
     (task_over task) (task-open task) (let_go hand.name (ready_of s)) hand own
-    (c.release_if_owned.ensures.emptied (eqb-true (owner_of hand.spot.carrier) s.number own)))
+    (c.release.ensures.emptied (eqb-true (owner_of hand.spot.carrier) s.number own)))
 
 pub returns-else-release-clause-actor : goal.returns-else-release-clause-actor
 returns-else-release-clause-actor c =
@@ -47,11 +47,11 @@ returns-else-release-clause-actor c =
     let hand = c.args.hand in
     let task = c.args.task in
     let other : (owner_of hand.spot.carrier == s.number) ≡ false =
-    sym c.release_if_owned.ensures.own ∙ c.if-release_if_owned.false in
+    sym c.release.ensures.own ∙ c.if-release.false in
     c.send.ensures.actor
-    ∙ handed (sent hand (For task)) (ready_of s) c.release_if_owned.new.instance
+    ∙ handed (sent hand (For task)) (ready_of s) c.release.new.instance
     s.instance c.let_go.new.self.held (without_name hand.name s.names.held)
-    (c.release_if_owned.ensures.left ∙ ap (λ own. left_if own s.instance hand.spot) other)
+    (c.release.ensures.left ∙ ap (λ own. left_if own s.instance hand.spot) other)
     c.let_go.ensures.held
     ∙ sym (released-away (setup_for s) s.number (sym s.migrates_so ∙ c.if-self.false) (For task)
     (task_over task) (task-open task) (let_go hand.name (ready_of s)) hand other)
