@@ -5,7 +5,7 @@ ghost use Rattle.ea_goodfit.specs.Gaps.{address_of, IsBelow};
 
 use crate::{BinnedGap, Bins, Fit};
 use ea_model::OutOfMemory;
-use ea_model::keyed::{enter, item_of, take_out};
+use ea_model::keyed::{enter_within, item_of, take_out};
 use std::alloc::Global;
 use std::test::Fail;
 
@@ -224,7 +224,8 @@ fn turn(bins: &mut Bins, plain: &mut Vec<BinnedGap>, gap: BinnedGap) -> Result<(
         take_out(held.address, plain);
         return Ok(());
     }
-    enter(gap, plain)?;
+    plain.reserve(1)?;
+    enter_within(gap, plain);
     bins.reserve(1)?;
     bins.insert(gap);
     Ok(())

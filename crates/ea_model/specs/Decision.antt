@@ -4,7 +4,7 @@ use Rattle.ea_model.specs.declared.settings.Settings.{Settings}
 use Rattle.ea_model.specs.declared.units.TheConstants.{HEADER_UNITS, MIN_BLOCK}
 use Rattle.ea_model.specs.Content.{taken_of}
 use Rattle.ea_model.specs.Settings.{is_above_threshold}
-use Rattle.ea_model.specs.Units.{pages_for}
+use Rattle.ea_model.specs.Units.{least_pages, pages_for}
 use Rattle.ea_model.specs.declared.reallocation.Decision.{Decision}
 use Rattle.ea_model.specs.declared.reallocation.Decision.TheVariants.{Stay, ShrinkHere, GrowHere}
 use Rattle.ea_model.specs.declared.reallocation.Decision.TheVariants.{ShrinkCarrier, Move}
@@ -40,10 +40,10 @@ in_single s old fresh units =
     else if not (is_above_threshold s fresh)
     && nat_le (s.rsbcmt * units) (100 * tail units fresh) then Move
     else if is_above_threshold s fresh && (nat_lt fresh old
-    && (nat_lt (pages_for (HEADER_UNITS + fresh)) (pages_for units)
+    && (nat_lt (least_pages fresh) (pages_for units)
     && (nat_le s.asbcst (tail units fresh)
     && nat_le (s.rsbcst * units) (100 * tail units fresh))))
-    then ShrinkCarrier (pages_for (HEADER_UNITS + fresh))
+    then ShrinkCarrier (least_pages fresh)
     else in_place old fresh
 
 abbrev pub at_home : Settings → ℕ → ℕ → Where → Decision

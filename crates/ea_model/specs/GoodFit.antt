@@ -1,5 +1,5 @@
 -- Good fit: bins of gaps, of which a search inspects the first few.
-use Rattle.std.specs.Prelude.{ℕ, ◌+◌, ◌^◌, Bool, ◌&&◌, if◌then◌else◌, nat_lt, nat_le, ◌==◌, List}
+use Rattle.std.specs.Prelude.{ℕ, ◌+◌, ◌-◌, ◌^◌, Bool, ◌&&◌, if◌then◌else◌, nat_lt, nat_le, ◌==◌, List}
 use Rattle.std.specs.Prelude.{Option, filter, length}
 use Rattle.std.specs.List.{range_with_len}
 use Rattle.ea_model.specs.Choice.{first, less}
@@ -8,10 +8,21 @@ use Rattle.ea_model.specs.Choice.{first, less}
 unfoldable pub powers : ℕ → ℕ → ℕ → ℕ
 powers size a n = length (filter (λ k. nat_le (2 ^ k) size) (range_with_len a n))
 
+-- the least size that shares its bin, 2 ^ SHARED_POWER
+abbrev pub SHARED : ℕ
+SHARED = 64
+
+abbrev pub SHARED_POWER : ℕ
+SHARED_POWER = 6
+
+-- how many powers of two there are from it on below 2 ^ 32
+abbrev pub SHARED_BINS : ℕ
+SHARED_BINS = 26
+
 -- the bin of a size: one for each size below 64, then one for 64 to 127, one for 128 to 255 and so
 -- on, to twice the size each
 unfoldable pub bin_of : ℕ → ℕ
-bin_of size = if nat_lt size 64 then size else 63 + powers size 6 26
+bin_of size = if nat_lt size SHARED then size else (SHARED - 1) + powers size SHARED_POWER SHARED_BINS
 
 -- over gaps of any kind, with the address and the units of each
 module _ {A : Type 0} (address size : A → ℕ) where

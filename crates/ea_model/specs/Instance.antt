@@ -17,7 +17,7 @@ use Rattle.ea_model.specs.declared.carriers.Figures.{Figures}
 use Rattle.ea_model.specs.declared.carriers.CarrierLine.{CarrierLine}
 use Rattle.ea_model.specs.declared.carriers.Totals.{Totals}
 use Rattle.ea_model.specs.declared.carriers.Standing.TheVariants as standing
-use Rattle.ea_model.specs.Units.{pages_for}
+use Rattle.ea_model.specs.Units.{least_pages, pages_for}
 use Rattle.ea_model.specs.declared.reallocation.Decision.{Decision}
 use Rattle.ea_model.specs.declared.reallocation.Decision.TheVariants.{Stay, ShrinkHere, GrowHere}
 use Rattle.ea_model.specs.declared.reallocation.Decision.TheVariants.{ShrinkCarrier, Move}
@@ -153,10 +153,7 @@ abbrev pub growth : Settings → ℕ → ℕ
 growth s n = if nat_le n s.mbcgs then s.smbcs + n * (max s.lmbcs s.smbcs - s.smbcs) / s.mbcgs else
     max s.lmbcs s.smbcs
 
--- the pages of the least carrier that holds a block of this need, and of the next one
-abbrev pub least_pages : ℕ → ℕ
-least_pages need = pages_for (HEADER_UNITS + need)
-
+-- the pages of the next multiblock carrier, which holds a block of this need
 abbrev pub next_pages : Instance → ℕ → ℕ
 next_pages i need = max (least_pages need) (pages_for (growth i.settings (multis i.contents)))
 

@@ -43,6 +43,12 @@ texts_of t = map (λ text. text.items) t.texts.items
 abbrev pub operations_of : Trace → List Op
 operations_of t = flat_map (λ text. text) (texts_of t)
 
+-- whether a trace of this mode has a schedule of its own
+abbrev pub is_scheduled : Mode → Bool
+is_scheduled Threads = false
+is_scheduled (Schedule turns) = true
+is_scheduled (Generated seed count) = false
+
 -- the turns in order; only a schedule has any
 abbrev pub turns_of : Mode → List Turns
 turns_of Threads = []

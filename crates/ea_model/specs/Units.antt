@@ -1,16 +1,21 @@
 -- Units of 8 bytes.
 use Rattle.std.specs.Prelude.{ℕ, ◌+◌, ◌-◌, ◌/◌, ◌%◌, max}
-use Rattle.ea_model.specs.declared.units.TheConstants.{MIN_BLOCK, PAGE_UNITS, UNIT_BYTES}
+use Rattle.ea_model.specs.declared.units.TheConstants.{BLOCK_HEADER, HEADER_UNITS, MIN_BLOCK, PAGE_UNITS}
+use Rattle.ea_model.specs.declared.units.TheConstants.{UNIT_BYTES}
 
 -- n rounded up to an even number
 abbrev pub even : ℕ → ℕ
 even n = n + n % 2
 
--- the units of a request: a header of one unit and the bytes in whole units, an even number and 6
--- at least
+-- the units of a request: those of a block's header and the bytes in whole units, an even number
+-- and 6 at least
 abbrev pub need_of : ℕ → ℕ
-need_of bytes = max MIN_BLOCK (even (1 + (bytes + (UNIT_BYTES - 1)) / UNIT_BYTES))
+need_of bytes = max MIN_BLOCK (even (BLOCK_HEADER + (bytes + (UNIT_BYTES - 1)) / UNIT_BYTES))
 
 -- the pages that hold that many units
 abbrev pub pages_for : ℕ → ℕ
 pages_for units = (units + (PAGE_UNITS - 1)) / PAGE_UNITS
+
+-- the pages of the least carrier that holds a block of that many units, and its own header
+abbrev pub least_pages : ℕ → ℕ
+least_pages units = pages_for (HEADER_UNITS + units)

@@ -90,6 +90,14 @@ impl Keyed for Segment {
     }
 }
 
+/// The units of the super carrier that a block has: the first of them, counted from the first unit
+/// of the super carrier, and how many.
+#[derive(Debug, Clone, Copy, PartialEq, Eq)]
+pub struct Extent {
+    pub first: u32,
+    pub units: u32,
+}
+
 /// The kinds of carriers.
 #[derive(Debug, Clone, Copy, PartialEq, Eq)]
 pub enum Kind {

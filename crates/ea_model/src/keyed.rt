@@ -1,10 +1,8 @@
 //! Items with a key each, which stand by rising key.
-ghost use Rattle.std.specs.Prelude.{◌≡◌, ℕ, ◌+◌, ◌<◌, ◌≤◌, AllPairs, Some, IsSome, OnOk, OnErr};
-ghost use Rattle.std.specs.Prelude.{get_or, length, option_map, vec_len, vec_capacity};
+ghost use Rattle.std.specs.Prelude.{◌≡◌, ℕ, ◌+◌, ◌<◌, ◌≤◌, AllPairs, Some, IsSome, get_or, length};
+ghost use Rattle.std.specs.Prelude.{option_map, vec_len, vec_capacity};
 ghost use Rattle.std.specs.List.{position_or_len};
 ghost use Rattle.ea_model.specs.Keyed.{has_key, is_after, item_at, entered, without, IsBelow};
-
-use crate::lists::OutOfMemory;
 
 /// An item that its key tells from the others.
 pub trait Keyed {
@@ -56,23 +54,6 @@ fn index_after<T: Keyed>(key: u32, items: &[T]) -> usize
     items.len()
 }
 
-/// Puts an item among the others, by its key. Where there is no memory, it is dropped and the
-/// others stay.
-pub fn enter<T: Keyed + Drop>(item: T, items: &mut Vec<T>) -> Result<(), OutOfMemory>
-    ensures ok { OnOk result (items.new.items ≡ entered T.key_of item items.old.items) }
-    ensures err { OnErr result (items.new.items ≡ items.old.items) }
-
-    // It fails only where there is no room, and with room it takes no memory.
-    ensures len { OnOk result (vec_len items.new ≡ vec_len items.old + 1) }
-    ensures full { OnErr result (vec_capacity items.old ≤ vec_len items.old) }
-    ensures capacity { vec_capacity items.old ≤ vec_capacity items.new }
-    ensures in_place { vec_len items.old < vec_capacity items.old
-        → vec_capacity items.new ≡ vec_capacity items.old }
-{
-    let index = index_after(item.key(), items);
-    Ok(items.insert(index, item)?)
-}
-
 /// Puts an item among the others, by its key, where there is room. It takes no memory.
 pub fn enter_within<T: Keyed + Drop>(item: T, items: &mut Vec<T>)
     requires { vec_len items.old < vec_capacity items.old }
@@ -80,7 +61,8 @@ pub fn enter_within<T: Keyed + Drop>(item: T, items: &mut Vec<T>)
     ensures len { vec_len items.new ≡ vec_len items.old + 1 }
     ensures capacity { vec_capacity items.new ≡ vec_capacity items.old }
 {
-    match enter(item, items) {
+    let index = index_after(item.key(), items);
+    match items.insert(index, item) {
         Ok(()) => (),
         Err(_) => unreachable!(),
     }

@@ -18,8 +18,8 @@ pub mod units;
 pub mod words;
 
 pub use carriers::{
-    Block, BlockAt, Candidate, Carried, CarrierLine, CarrierPlan, Figures, Gap, Inner, Kind,
-    OwnCarrier, Place, Segment, Spot, Standing, Totals, first_number, owner_of,
+    Block, BlockAt, Candidate, Carried, CarrierLine, CarrierPlan, Extent, Figures, Gap, Inner,
+    Kind, OwnCarrier, Place, Segment, Spot, Standing, Totals, first_number, owner_of,
 };
 pub use entries::{Entry, NoCarrier, Report, Reports, Triple};
 pub use lists::{List, OutOfMemory};

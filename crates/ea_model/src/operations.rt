@@ -1,4 +1,6 @@
 //! The operations of a trace.
+ghost use Rattle.std.specs.Prelude.{◌≡◌};
+ghost use Rattle.ea_model.specs.Trace as traces;
 
 /// An operation of a scheduler. Names are 1 to `MAX_NAME`, schedulers 1 to `MAX_SCHEDULERS`, tries 1
 /// to `MAX_TRIES`, and the bytes of a request 0 to `MAX_BYTES`.
@@ -18,4 +20,20 @@ pub enum Op {
     Info,
     /// Does nothing but look after the scheduler's queue.
     Idle,
+}
+
+impl Op {
+    /// The greatest name of the operation, or 0.
+    pub fn greatest_in(self) -> u32
+        ensures { result ≡ traces.greatest_in self }
+    {
+        match self {
+            Op::Alloc { name, .. }
+            | Op::Free { name }
+            | Op::Give { name, .. }
+            | Op::Take { name, .. } => { name }
+            Op::Realloc { old, fresh, .. } => old.max(fresh),
+            Op::Info | Op::Idle => 0,
+        }
+    }
 }

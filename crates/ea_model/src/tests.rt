@@ -1,5 +1,5 @@
 //! Calls that succeed, and values that were worked out by hand.
-use crate::keyed::{self, enter, enter_within, item_of, take_out};
+use crate::keyed::{self, enter_within, item_of, take_out};
 use crate::words::{first_line, first_word, number, numeral};
 use crate::{List, Segment, need};
 use std::test::Fail;
@@ -29,9 +29,9 @@ fn a_list_takes_items_and_gives_them_back(rt: HostRuntime) -> Result<(), Fail> {
 fn items_are_entered_and_found_by_their_keys(rt: HostRuntime) -> Result<(), Fail> {
     let run = |base: u32, pages: u32| Segment { base, pages };
     let mut runs = Vec::with_capacity(rt.alloc(), 4)?;
-    enter(run(30, 3), &mut runs)?;
-    enter(run(10, 1), &mut runs)?;
-    enter(run(20, 2), &mut runs)?;
+    enter_within(run(30, 3), &mut runs);
+    enter_within(run(10, 1), &mut runs);
+    enter_within(run(20, 2), &mut runs);
     assert_eq!(rt;
         runs.as_slice(),
         [run(10, 1), run(20, 2), run(30, 3)].as_slice()

@@ -1,4 +1,6 @@
 //! A trace: what each scheduler is to do, and whose turn it is.
+ghost use Rattle.std.specs.Prelude.{◌≡◌};
+ghost use Rattle.ea_model.specs.Trace as traces;
 
 use crate::lists::List;
 use crate::operations::Op;
@@ -33,6 +35,28 @@ pub enum Mode {
     /// Each scheduler has `count` operations, which follow from the seed and its number. The seed
     /// is 0 to 2147483647.
     Generated { seed: u32, count: u32 },
+}
+
+impl Mode {
+    /// Whether a trace of this mode has a schedule of its own.
+    pub fn is_scheduled(&self) -> bool
+        ensures { result ≡ traces.is_scheduled self.now }
+    {
+        match self {
+            Mode::Schedule { .. } => true,
+            Mode::Threads | Mode::Generated { .. } => false,
+        }
+    }
+
+    /// The turns of a schedule; another mode has none.
+    pub fn turns_of(&self) -> &[Turns]
+        ensures { result.now ≡ traces.turns_of self.now }
+    {
+        match self {
+            Mode::Schedule { turns } => turns.as_slice(),
+            Mode::Threads | Mode::Generated { .. } => &[],
+        }
+    }
 }
 
 /// What the schedulers are to do.

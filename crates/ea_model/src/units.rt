@@ -1,6 +1,6 @@
 //! Sizes and limits. A unit is 8 bytes; carriers, blocks and gaps are counted in units.
-ghost use Rattle.std.specs.Prelude.{◌≡◌, ◌+◌, ◌≤◌};
-ghost use Rattle.ea_model.specs.Units.{need_of, pages_for};
+ghost use Rattle.std.specs.Prelude.{◌≡◌, ◌≤◌};
+ghost use Rattle.ea_model.specs.Units.{least_pages, need_of, pages_for};
 
 /// The bytes of a unit.
 pub const UNIT_BYTES: u32 = 8;
@@ -12,6 +12,8 @@ pub const PAGE_UNITS: u32 = 512;
 pub const MEGABYTE_PAGES: u32 = 256;
 /// The units at the front of a carrier that hold its own header.
 pub const HEADER_UNITS: u32 = 8;
+/// The units at the front of a block that hold its header.
+pub const BLOCK_HEADER: u32 = 1;
 /// The fewest units of a block, its header included.
 pub const MIN_BLOCK: u32 = 6;
 /// The carrier numbers of an allocator instance.
@@ -56,12 +58,12 @@ pub const MAX_DIGITS: usize = 10;
 pub const MAX_INPUT: usize = 16_777_216;
 
 /// The units that a request of `bytes` takes, at most `MAX_BYTES`: its bytes in whole units and the
-/// block's header of one unit, rounded up to an even number, and `MIN_BLOCK` at least.
+/// block's header, rounded up to an even number, and `MIN_BLOCK` at least.
 pub fn need(bytes: u32) -> u32
     requires { bytes ≤ MAX_BYTES }
     ensures { result ≡ need_of bytes }
 {
-    let units = 1 + bytes.div_ceil(UNIT_BYTES);
+    let units = BLOCK_HEADER + bytes.div_ceil(UNIT_BYTES);
     let even = units + units % 2;
     even.max(MIN_BLOCK)
 }
@@ -75,7 +77,7 @@ pub fn pages_for(units: u32) -> u32
 
 /// The pages of the least carrier that holds a block of that many units, and its own header.
 pub fn least_pages(units: u32) -> u32
-    ensures { result ≡ pages_for (HEADER_UNITS + units) }
+    ensures { result ≡ least_pages units }
 {
     (u64::from(HEADER_UNITS) + u64::from(units)).div_ceil(u64::from(PAGE_UNITS)) as u32
 }
