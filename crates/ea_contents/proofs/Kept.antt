@@ -6,10 +6,11 @@ use Rattle.std.proofs.Common.{true, ◌*◌, get_or}
 use Rattle.std.specs.Prelude.{Option, None, Some, is_some, not, ◌&&◌, ◌==◌}
 use Rattle.std.proofs.lemmas.Bool.{cases_eq, cases_lt, eqb-true}
 use Rattle.ea_model.specs.declared.carriers.BlockAt.{BlockAt}
+use Rattle.ea_model.specs.declared.carriers.Extent.{Extent}
 use Rattle.ea_model.specs.declared.operations.Op.{Op}
 use Rattle.ea_model.specs.declared.operations.Op.TheVariants as op
 use Rattle.ea_model.specs.Trace.{makes}
-use Rattle.ea_laws.specs.InOrder.{Range, RangesApart}
+use Rattle.ea_laws.specs.InOrder.{ExtentsApart}
 use Rattle.ea_machine.specs.declared.nodes.Named.{Named}
 use Rattle.ea_machine.specs.Machine.{run, step}
 use Rattle.ea_machine.specs.Nodes.{named_at}
@@ -35,8 +36,8 @@ use Rattle.ea_contents.specs.Model.{making_of, source_words, units_made}
 use Rattle.ea_contents.proofs.Windows.{before, behind, fitted-length, set-outside, set-within}
 use Rattle.ea_contents.proofs.Windows.{written}
 
--- the units of a range, or 0
-abbrev units_of : Option Range → ℕ
+-- the units of an extent, or 0
+abbrev units_of : Option Extent → ℕ
 units_of None = 0
 units_of (Some r) = r.units
 
@@ -47,7 +48,7 @@ put-other : (f : ℕ → List ℕ) (k n : ℕ) (v : List ℕ) → n ≢ k → pu
 put-other f k n v other = grind (arith, other)
 
 -- words that are written at units that are apart from those of a block
-apart-words : (memory ws : List ℕ) (r q : Range) → RangesApart r q → 1 ≤ r.units → 1 ≤ q.units
+apart-words : (memory ws : List ℕ) (r q : Extent) → ExtentsApart r q → 1 ≤ r.units → 1 ≤ q.units
     → length ws ≡ word_count q → q.first + q.units ≤ length memory
     → words_of r (with_words (words_from q) ws memory) ≡ words_of r memory
 apart-words memory ws r q apart some some' many fits = elim apart [
@@ -59,7 +60,7 @@ apart-words memory ws r q apart some some' many fits = elim apart [
 ]
 
 source-agrees : (setup : Setup) (w : State) (memory : List ℕ) (lists : ℕ → List ℕ)
-    (source : Option ℕ) (from : Option Range) → HasSource setup w source from
+    (source : Option ℕ) (from : Option Extent) → HasSource setup w source from
     → Agree setup w memory lists → source_in memory from ≡ source_words lists source
 source-agrees setup w memory lists None None has agree = refl
 source-agrees setup w memory lists None (Some r) has agree = absurd has
@@ -69,8 +70,8 @@ source-agrees setup w memory lists (Some old) (Some r) has agree = agree old r h
 module _ (setup : Setup) (w v : State) (memory : List ℕ) (lists : ℕ → List ℕ)
     (whole : IsWhole setup memory) (next : LieApart setup v)
     (agree : Agree setup w memory lists) where
-  made-agrees : (o : Option Making) (r from : Option Range) → MadeAt setup w v o r from
-      → ((n : ℕ) (q : Range) → LiesOver setup n q v
+  made-agrees : (o : Option Making) (r from : Option Extent) → MadeAt setup w v o r from
+      → ((n : ℕ) (q : Extent) → LiesOver setup n q v
       → LiesOver setup n q w ⊎ ((m : Making) × (o ≡ Some m) × (m.fresh ≡ n)))
       → Agree setup v (memory_made memory r from) (lists_made lists (units_of r) o)
   made-agrees None None from at kept n q lies = elim (kept n q lies) [
@@ -112,7 +113,7 @@ module _ (setup : Setup) (w v : State) (memory : List ℕ) (lists : ℕ → List
 
 module _ (setup : Setup) (w : State) (memory : List ℕ) (lists : ℕ → List ℕ)
     (now : LieApart setup w) (agree : Agree setup w memory lists) where
-  write-agrees : (name index value : ℕ) (r : Range) → LiesOver setup name r w
+  write-agrees : (name index value : ℕ) (r : Extent) → LiesOver setup name r w
       → index + 1 < r.units → Agree setup w (set memory (words_from r + index) value)
       (lists_written lists name index value)
   write-agrees name index value r there within n q lies =
@@ -131,7 +132,7 @@ module _ (setup : Setup) (w : State) (memory : List ℕ) (lists : ℕ → List �
             ∙ agree n q lies
             ∙ sym (put-other lists name n (set (lists name) index value) other)
       ] where
-        outside : (q r : Range) → RangesApart q r → 1 ≤ q.units → (index : ℕ)
+        outside : (q r : Extent) → ExtentsApart q r → 1 ≤ q.units → (index : ℕ)
             → index + 1 < r.units → (words_from r + index < words_from q)
             ⊎ (words_from q + word_count q ≤ words_from r + index)
         outside q r apart some index within = elim apart [
@@ -180,7 +181,7 @@ module _ (setup : Setup) (turns : List ℕ) (i n : ℕ) where
     by op.Idle makes todo = absurd cc
 
 -- a block that lies over these units is one of its name
-pub over-named : (setup : Setup) (w : State) (n : ℕ) (q : Range) → LiesOver setup n q w
+pub over-named : (setup : Setup) (w : State) (n : ℕ) (q : Extent) → LiesOver setup n q w
     → 0 < blocks_named setup n w
 over-named setup w n q lies = omega (
   arith,
@@ -198,13 +199,13 @@ over-named setup w n q lies = omega (
 
 module _ (setup : Setup) (laws : Protocol setup) where
   -- a block that lies over these units is one of its name
-  named-over : (turns : List ℕ) (i n : ℕ) (q : Range)
+  named-over : (turns : List ℕ) (i n : ℕ) (q : Extent)
       → LiesOver setup n q (run setup (turns ++ i ∷ []))
       → 0 < blocks_named setup n (run setup (turns ++ i ∷ []))
   named-over turns i n q lies = over-named setup (run setup (turns ++ i ∷ [])) n q lies
 
   -- a block was there with the same units, or its name is the one that was made
-  pub had-or-made : (turns : List ℕ) (i : ℕ) (n : ℕ) (q : Range)
+  pub had-or-made : (turns : List ℕ) (i : ℕ) (n : ℕ) (q : Extent)
       → LiesOver setup n q (run setup (turns ++ i ∷ []))
       → LiesOver setup n q (run setup turns)
       ⊎ ((m : Making) × (made setup (run setup turns) i ≡ Some m) × (m.fresh ≡ n))
@@ -216,7 +217,7 @@ module _ (setup : Setup) (laws : Protocol setup) where
       ]
 
   -- the units of what was made are those of its block
-  units-are : (turns : List ℕ) (i : ℕ) (o : Option Making) (r from : Option Range)
+  units-are : (turns : List ℕ) (i : ℕ) (o : Option Making) (r from : Option Extent)
       → MadeAt setup (run setup turns) (run setup (turns ++ i ∷ [])) o r from
       → units_of r ≡ units_made setup (step setup (run setup turns) i) o
   units-are turns i None None from at = refl

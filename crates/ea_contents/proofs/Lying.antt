@@ -3,7 +3,7 @@ use Rattle.std.proofs.Common.{◌≡◌, ℕ, ◌<◌, true, false}
 use Rattle.std.proofs.Common.{refl, sym, ap, ◌∙◌, inl, inr, arith}
 use Rattle.std.specs.Prelude.{None, is_some}
 use Rattle.std.proofs.lemmas.Bool.{cases_Bool, cases_lt}
-use Rattle.ea_laws.specs.InOrder.{Range}
+use Rattle.ea_model.specs.declared.carriers.Extent.{Extent}
 use Rattle.ea_machine.specs.Nodes.{named_at}
 use Rattle.ea_machine.specs.Setup.{Setup, is_scheduler}
 use Rattle.ea_machine.specs.State.{State}
@@ -31,5 +31,5 @@ held-named e w i n rule held = elim (cases_Bool (is_scheduler e i)) [
 
 -- so it lies somewhere
 pub held-lies : (e : Setup) (w : State) (i n : ℕ) → Rule e w → holds w i n ≡ true
-    → (r : Range) × LiesOver e n r w
+    → (r : Extent) × LiesOver e n r w
 held-lies e w i n rule held = lies-somewhere e w n (held-named e w i n rule held)

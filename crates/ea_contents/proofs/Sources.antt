@@ -5,9 +5,9 @@ use Rattle.std.proofs.Common.{refl, sym, ap, ◌∙◌, subst, arith}
 use Rattle.std.specs.Prelude.{◌==◌, ◌&&◌, Option, Some, None, is_some, not}
 use Rattle.ea_model.specs.Content.{Content}
 use Rattle.ea_model.specs.Trace.{makes}
+use Rattle.ea_model.specs.declared.carriers.Extent.{Extent}
 use Rattle.ea_model.specs.declared.operations.Op.{Op}
 use Rattle.ea_model.specs.declared.operations.Op.TheVariants as op
-use Rattle.ea_laws.specs.InOrder.{Range}
 use Rattle.ea_machine.specs.Actor.{Actor}
 use Rattle.ea_machine.specs.declared.stages.Route.{Route}
 use Rattle.ea_machine.specs.declared.stages.Stage.{Stage}
@@ -174,7 +174,7 @@ module _ (e : Setup) (laws : Protocol e) (rules : (L : List ℕ) → Rule e (run
   made-by = laws.makes m.fresh L i to-make has-block
 
   -- the block whose words are taken over lies somewhere
-  pub source-lies : (old : ℕ) → m.source ≡ Some old → (r : Range) × LiesOver e old r w
+  pub source-lies : (old : ℕ) → m.source ≡ Some old → (r : Extent) × LiesOver e old r w
   source-lies old source =
       let h = old-before e L i made-by.first m old
       (sym (ap making_of made-by.todo) ∙ parts.0) source made-by.old in

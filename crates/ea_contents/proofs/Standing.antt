@@ -6,11 +6,11 @@ use Rattle.std.proofs.lemmas.List.{length-set}
 use Rattle.std.proofs.lemmas.Slice.Zip.{AllZip-long}
 use Rattle.std.proofs.Math.Seq.{drop-append_seam}
 use Rattle.ea_model.specs.Lists.{Items}
+use Rattle.ea_model.specs.declared.carriers.Extent.{Extent}
 use Rattle.ea_model.specs.declared.operations.Op.{Op}
 use Rattle.ea_model.specs.declared.settings.Config.{Config}
 use Rattle.ea_model.specs.declared.trace.Trace.{Trace}
 use Rattle.ea_model.specs.Trace.{stop_in}
-use Rattle.ea_laws.specs.InOrder.{Range}
 use Rattle.ea_machine.specs.Machine.{run, start, step}
 use Rattle.ea_machine.specs.Setup.{Setup, setup_of}
 use Rattle.ea_machine.specs.State.{State}
@@ -22,8 +22,6 @@ use Rattle.ea_sound.specs.Over.{LiesOver, units_named}
 use Rattle.ea_sound.specs.Present.{Rule}
 use Rattle.ea_sound.proofs.Protocols.{protocol, rule-run}
 use Rattle.ea_sound.proofs.StartKept.{all-none}
-use Rattle.ea_outcome.specs.Extents.{range_if, range_of}
-use Rattle.ea_outcome.specs.declared.extents.Extent.{Extent}
 use Rattle.ea_given.specs.Runs.{StandsAfter, done_after, holds_after}
 use Rattle.ea_sound.proofs.Stopping.{cut-none}
 use Rattle.ea_sched.proofs.Texts.{text-is}
@@ -53,7 +51,7 @@ module _ (c : Config) (t : Trace) (none : t.stops.items ≡ []) where
   unstopped turns = ap (run e) (uncut turns)
 
 -- before the first turn no block lies anywhere
-pub start-empty : (c : Config) (t : Trace) (name : ℕ) (r : Range)
+pub start-empty : (c : Config) (t : Trace) (name : ℕ) (r : Extent)
     → LiesOver (setup_of c t) name r (run (setup_of c t) []) → ⊥
 start-empty c t name r lies = omega (
   arith,
@@ -69,14 +67,6 @@ todo-left e w i rule =
     ap (λ k. drop k (e.texts i)) (AllZip-long Makes history.done (w.actors i).log history.each)
     ∙ ap (drop (length history.done)) history.split
     ∙ drop-append_seam history.done (w.actors i).todo
-
--- what is kept of a name in its place
-kept-some : (x : Option Extent) (r : Range) → range_if x ≡ Some r
-    → (y : Extent) × (x ≡ Some y) × (range_of y ≡ r)
-kept-some None r q = absurd cc
-kept-some (Some y) r q = (y, refl, same (range_of y) r q) where
-  same : (a b : Range) → Some a ≡ Some b → a ≡ b
-  same a b q = cc
 
 pub same-extent : (x y : Extent) → Some x ≡ Some y → x ≡ y
 same-extent x y q = cc
@@ -135,44 +125,40 @@ module _ (c : Config) (t : Trace) (turns : List ℕ) (lists : ℕ → List ℕ) 
   rules = rule-run c t at.run.shared.config at.run.shared.trace
 
   -- a block lies within the memory
-  pub lies-stored : (name : ℕ) (x : Extent) → LiesOver setup name (range_of x) w
-      → IsStored x s.memory.words
+  pub lies-stored : (name : ℕ) (x : Extent) → LiesOver setup name x w → IsStored x s.memory.words
   lies-stored name x lies =
-      let some = (laws.apart turns).some name (range_of x) lies in
-      let within = (laws.apart turns).within name (range_of x) lies in
+      let some = (laws.apart turns).some name x lies in
+      let within = (laws.apart turns).within name x lies in
       (omega (arith, some), omega (arith, within, at.whole))
 
   -- the extent of a held name
   pub held-kept : (name : ℕ) → IsHeld w name
-      → (x : Extent) × (kept s.extents.items name ≡ Some x) × LiesOver setup name (range_of x) w
+      → (x : Extent) × (kept s.extents.items name ≡ Some x) × LiesOver setup name x w
   held-kept name held =
       let lies = held-lies setup w held.0 name (rules turns) held.1 in
-      let x = kept-some (kept s.extents.items name) lies.0 (at.extents name lies.0 lies.1) in
-      (x.0, x.1, subst (λ r. LiesOver setup name r w) (sym x.2) lies.1)
+      (lies.0, at.extents name lies.0 lies.1, lies.1)
 
-  module _ (name : ℕ) (x : Extent) (lies : LiesOver setup name (range_of x) w) where
+  module _ (name : ℕ) (x : Extent) (lies : LiesOver setup name x w) where
     pub lies-units : x.units ≡ units_named setup name w
-    lies-units = sym ((laws.apart turns).sized name (range_of x) lies)
+    lies-units = sym ((laws.apart turns).sized name x lies)
 
     pub word-stored : IsStored x s.memory.words
     word-stored = lies-stored name x lies
 
-    pub word-there : HasWords (range_of x) s.memory
-    word-there = at.there name (range_of x) lies
+    pub word-there : HasWords x s.memory
+    word-there = at.there name x lies
 
     pub word-within : (index : ℕ) → index + 1 < units_named setup name w → index + 1 < x.units
     word-within index less = omega (arith, less, lies-units)
 
-    pub word-read : (index value : ℕ)
-        → value ≡ get_or (words_of (range_of x) s.memory.words) index 0
+    pub word-read : (index value : ℕ) → value ≡ get_or (words_of x s.memory.words) index 0
         → value ≡ get_or (lists name) index 0
-    word-read index value is =
-        is ∙ ap (λ ws. get_or ws index 0) (at.agrees name (range_of x) lies)
+    word-read index value is = is ∙ ap (λ ws. get_or ws index 0) (at.agrees name x lies)
 
     -- one word is written
     pub word-written : (index value : ℕ) → index + 1 < x.units → (v : Session)
         → v.run ≡ s.run → v.trace ≡ s.trace → v.failed ≡ s.failed → v.extents ≡ s.extents
-        → v.memory.words ≡ set s.memory.words (words_from (range_of x) + index) value
+        → v.memory.words ≡ set s.memory.words (words_from x + index) value
         → v.memory.there ≡ s.memory.there
         → StandsWith c t turns (lists_written lists name index value) v
     word-written index value within v same trace failed extents memory there = record {
@@ -184,11 +170,11 @@ module _ (c : Config) (t : Trace) (turns : List ℕ) (lists : ℕ → List ℕ) 
       whole = subst (IsWhole setup) (sym memory) (omega (
         arith,
         at.whole,
-        length-set s.memory.words (words_from (range_of x) + index) value,
+        length-set s.memory.words (words_from x + index) value,
       ));
       agrees = subst (λ m. Agree setup w m (lists_written lists name index value)) (sym memory)
-          ((keeps-agreement setup laws).writes turns s.memory.words lists name index value (range_of x)
-          lies within at.agrees);
+          ((keeps-agreement setup laws).writes turns s.memory.words lists name index value x lies
+          within at.agrees);
       there = λ n r lies k from upto. ap (λ bs. get_or bs (k / PAGE_WORDS) false) there
           ∙ at.there n r lies k from upto;
       places = ap (λ (l : _). length l.items) extents ∙ at.places;

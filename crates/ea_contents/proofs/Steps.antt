@@ -5,12 +5,12 @@ use Rattle.std.proofs.Common.{arith}
 use Rattle.std.specs.Prelude.{Option, Some, None, IfSome, max}
 use Rattle.std.proofs.lemmas.Bool.{cases_eq}
 use Rattle.std.proofs.lemmas.List.{get_or-set_other, get_or-set_same, length-set}
+use Rattle.ea_model.specs.declared.carriers.Extent.{Extent}
 use Rattle.ea_model.specs.declared.operations.Op.{Op}
 use Rattle.ea_model.specs.declared.operations.Op.TheVariants as op
 use Rattle.ea_model.specs.declared.settings.Config.{Config}
 use Rattle.ea_model.specs.declared.trace.Trace.{Trace}
 use Rattle.ea_model.specs.Trace.{greatest_in}
-use Rattle.ea_laws.specs.InOrder.{Range}
 use Rattle.ea_machine.specs.Machine.{run}
 use Rattle.ea_machine.specs.Setup.{Setup, setup_of}
 use Rattle.ea_machine.specs.State.{State}
@@ -19,8 +19,6 @@ use Rattle.ea_sound.specs.Over.{LiesOver}
 use Rattle.ea_sound.specs.Present.{Rule}
 use Rattle.ea_sound.proofs.Asked.{first-operation}
 use Rattle.ea_sound.proofs.TurnLists.{run-snoc}
-use Rattle.ea_outcome.specs.Extents.{range_if, range_of}
-use Rattle.ea_outcome.specs.declared.extents.Extent.{Extent}
 use Rattle.ea_given.specs.declared.run.GivenRun.{GivenRun}
 use Rattle.ea_given.specs.Runs.{HasScheduler, HasTaken, holds_after}
 use Rattle.ea_contents.specs.Agreeing.{Agree, HasSource, IsWhole, MadeAt, memory_made}
@@ -41,8 +39,8 @@ use Rattle.ea_contents.proofs.Sources.{source-lies}
 use Rattle.ea_contents.proofs.Windows.{fitted-length, with-length}
 
 -- the memory after what a step makes has as many words
-made-length : (memory : List ℕ) (r from : Option Range) → IfSome r (λ q. (1 ≤ q.units)
-    × (q.first + q.units ≤ length memory)) → length (memory_made memory r from) ≡ length memory
+made-length : (memory : List ℕ) (r from : Option Extent) → IfSome r (λ q. IsStored q memory)
+    → length (memory_made memory r from) ≡ length memory
 made-length memory None from fits = refl
 made-length memory (Some q) from fits =
     let ws = fitted (word_count q) (source_in memory from) in
@@ -102,10 +100,9 @@ module _ (c : Config) (t : Trace) (turns : List ℕ) (lists : ℕ → List ℕ) 
 
   -- where the block lies whose words are taken over
   pub source-kept : (m : Making) → made setup w me ≡ Some m
-      → HasSource setup w m.source (range_if (kept_if s.extents.items m.source))
+      → HasSource setup w m.source (kept_if s.extents.items m.source)
   source-kept m is = by m.source refl where
-    by : (o : Option ℕ) → m.source ≡ o
-        → HasSource setup w o (range_if (kept_if s.extents.items o))
+    by : (o : Option ℕ) → m.source ≡ o → HasSource setup w o (kept_if s.extents.items o)
     by None q = tt
     by (Some old) q =
         let lies = source-lies setup own_laws own_rules turns me m is old q in
@@ -114,18 +111,18 @@ module _ (c : Config) (t : Trace) (turns : List ℕ) (lists : ℕ → List ℕ) 
   pub source-stored : (m : Making) → made setup w me ≡ Some m
       → IfSome (kept_if s.extents.items m.source) (λ old. IsStored old s.memory.words)
   source-stored m is = by m.source (kept_if s.extents.items m.source) (source-kept m is) where
-    by : (o : Option ℕ) (x : Option Extent) → HasSource setup w o (range_if x)
+    by : (o : Option ℕ) (x : Option Extent) → HasSource setup w o x
         → IfSome x (λ old. IsStored old s.memory.words)
     by o None has = tt
     by None (Some x) has = absurd has
     by (Some old) (Some x) has = lies-stored c t turns lists s at old x has
 
   -- a block that lies somewhere after the step
-  pub block-stored : (name : ℕ) (x : Extent) → LiesOver setup name (range_of x) (run setup later)
+  pub block-stored : (name : ℕ) (x : Extent) → LiesOver setup name x (run setup later)
       → IsStored x s.memory.words
   block-stored name x lies =
-      let some = (own_laws.apart later).some name (range_of x) lies in
-      let within = (own_laws.apart later).within name (range_of x) lies in
+      let some = (own_laws.apart later).some name x lies in
+      let within = (own_laws.apart later).within name x lies in
       (omega (arith, some), omega (arith, within, at.whole))
 
   -- what was made, by what was yet to be made and whether it is held after the step
@@ -156,9 +153,9 @@ module _ (c : Config) (t : Trace) (turns : List ℕ) (lists : ℕ → List ℕ) 
   -- the session after the step
   module _ (v : Session) (run-on : HasTaken (me ∷ []) s.run v.run) (trace : v.trace ≡ s.trace)
       (failed : v.failed ≡ s.failed) where
-    stands-by : (r from : Option Range)
+    stands-by : (r from : Option Extent)
         → MadeAt setup w (run setup later) (made setup w me) r from
-        → IfSome r (λ q. (1 ≤ q.units) × (q.first + q.units ≤ length s.memory.words))
+        → IfSome r (λ q. IsStored q s.memory.words)
         → v.memory.words ≡ memory_made s.memory.words r from
         → AreBrought setup (run setup later) v.memory
         → length v.extents.items ≡ length s.extents.items
@@ -191,7 +188,7 @@ module _ (c : Config) (t : Trace) (turns : List ℕ) (lists : ℕ → List ℕ) 
           | inl had ↦ at.there n q had
           | inr new ↦ absurd (let never : None ≡ Some new.0 = sym none ∙ new.1 in cc)
         ])) (ap (λ (l : _). length l.items) same)
-        (λ n q lies. ap (λ (l : _). range_if (kept l.items n)) same
+        (λ n q lies. ap (λ (l : _). kept l.items n) same
         ∙ elim (had-or-made setup own_laws turns me n q lies) [
           | inl had ↦ at.extents n q had
           | inr new ↦ absurd (let never : None ≡ Some new.0 = sym none ∙ new.1 in cc)
@@ -199,21 +196,20 @@ module _ (c : Config) (t : Trace) (turns : List ℕ) (lists : ℕ → List ℕ) 
 
     -- a block was made
     pub stands-made : (m : Making) (x : Extent) → made setup w me ≡ Some m
-        → LiesOver setup m.fresh (range_of x) (run setup later)
-        → v.memory.words ≡ memory_made s.memory.words (Some (range_of x))
-        (range_if (kept_if s.extents.items m.source))
-        → HasWords (range_of x) v.memory → StaysThere s.memory v.memory
+        → LiesOver setup m.fresh x (run setup later)
+        → v.memory.words ≡ memory_made s.memory.words (Some x) (kept_if s.extents.items m.source)
+        → HasWords x v.memory → StaysThere s.memory v.memory
         → v.extents.items ≡ set s.extents.items m.fresh (Some x)
         → m.fresh < length s.extents.items
         → StandsWith c t later (lists_after setup w me lists) v
     stands-made m x is there memory brought stays placed below =
-        stands-by (Some (range_of x)) (range_if (kept_if s.extents.items m.source))
-        (subst (λ o. MadeAt setup w (run setup later) o (Some (range_of x))
-        (range_if (kept_if s.extents.items m.source))) (sym is) (there, source-kept m is))
+        stands-by (Some x) (kept_if s.extents.items m.source)
+        (subst (λ o. MadeAt setup w (run setup later) o (Some x)
+        (kept_if s.extents.items m.source)) (sym is) (there, source-kept m is))
         (block-stored m.fresh x there) memory
         (λ n q lies. elim (cases_eq n m.fresh) [
           | inl e ↦ subst (λ r. HasWords r v.memory)
-              (sym ((own_laws.apart later).one m.fresh q (range_of x)
+              (sym ((own_laws.apart later).one m.fresh q x
               (subst (λ k. LiesOver setup k q (run setup later)) e lies) there)) brought
           | inr other ↦ elim (had-or-made setup own_laws turns me n q lies) [
             | inl had ↦ λ k from upto. stays k (at.there n q had k from upto)
@@ -222,12 +218,12 @@ module _ (c : Config) (t : Trace) (turns : List ℕ) (lists : ℕ → List ℕ) 
           ]
         ])
         (omega (arith, ap length placed, length-set s.extents.items m.fresh (Some x)))
-        (λ n q lies. ap (λ l. range_if (kept l n)) placed ∙ elim (cases_eq n m.fresh) [
-          | inl e ↦ ap (λ k. range_if (kept (set s.extents.items m.fresh (Some x)) k)) e
-              ∙ ap range_if (get_or-set_same s.extents.items m.fresh (Some x) None below)
-              ∙ ap Some (sym ((own_laws.apart later).one m.fresh q (range_of x)
+        (λ n q lies. ap (λ l. kept l n) placed ∙ elim (cases_eq n m.fresh) [
+          | inl e ↦ ap (kept (set s.extents.items m.fresh (Some x))) e
+              ∙ get_or-set_same s.extents.items m.fresh (Some x) None below
+              ∙ ap Some (sym ((own_laws.apart later).one m.fresh q x
               (subst (λ k. LiesOver setup k q (run setup later)) e lies) there))
-          | inr other ↦ ap range_if (get_or-set_other s.extents.items m.fresh n (Some x) None other)
+          | inr other ↦ get_or-set_other s.extents.items m.fresh n (Some x) None other
               ∙ elim (had-or-made setup own_laws turns me n q lies) [
                 | inl had ↦ at.extents n q had
                 | inr new ↦ absurd (other (sym new.2

@@ -1,7 +1,7 @@
 -- Words that are kept by pages.
 use Rattle.std.specs.Prelude.{◌≡◌, ◌≢◌, ℕ, ◌+◌, ◌/◌, ◌<◌, ◌≤◌, Bool, true, false, List, [], ◌∷◌}
 use Rattle.std.specs.Prelude.{◌++◌, get_or, length, map, replicate, take}
-use Rattle.ea_laws.specs.InOrder.{Range}
+use Rattle.ea_model.specs.declared.carriers.Extent.{Extent}
 use Rattle.ea_contents.specs.Memory.{word_count, words_from}
 use Rattle.ea_contents.specs.declared.page.TheConstants.{PAGE_WORDS}
 
@@ -19,7 +19,7 @@ abbrev pub AreThere : ℕ → ℕ → Paged → Type 0
 AreThere at count p = (k : ℕ) → at ≤ k → k < at + count → IsThere k p
 
 -- so are those of all words of a block with these units
-abbrev pub HasWords : Range → Paged → Type 0
+abbrev pub HasWords : Extent → Paged → Type 0
 HasWords r p = AreThere (words_from r) (word_count r) p
 
 -- what was there stays there

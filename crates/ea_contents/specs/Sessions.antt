@@ -1,15 +1,13 @@
 -- The run of a trace with a memory, as it stands after some turns and some writes.
 use Rattle.std.specs.Prelude.{◌≡◌, ℕ, ◌+◌, ◌<◌, Bool, true, false, List, [], ◌∷◌, ◌++◌, Option}
 use Rattle.std.specs.Prelude.{None, Some, length, slice_index_or}
+use Rattle.ea_model.specs.declared.carriers.Extent.{Extent}
 use Rattle.ea_model.specs.declared.settings.Config.{Config}
 use Rattle.ea_model.specs.declared.trace.Trace.{Trace}
-use Rattle.ea_laws.specs.InOrder.{Range}
 use Rattle.ea_machine.specs.Machine as machine
 use Rattle.ea_machine.specs.Setup.{Setup, setup_of}
 use Rattle.ea_machine.specs.State.{State}
 use Rattle.ea_sound.specs.Over.{LiesOver, units_named}
-use Rattle.ea_outcome.specs.Extents.{range_if}
-use Rattle.ea_outcome.specs.declared.extents.Extent.{Extent}
 use Rattle.ea_given.specs.Runs.{HasScheduler, StandsAfter}
 use Rattle.ea_contents.specs.Agreeing.{Agree, IsWhole}
 use Rattle.ea_contents.specs.declared.access.Making.{Making}
@@ -28,12 +26,12 @@ kept_if extents (Some old) = kept extents old
 
 -- the extent of each name that has a block is kept
 abbrev pub KeepsExtents : Setup → State → List (Option Extent) → Type 0
-KeepsExtents setup w extents = (name : ℕ) (r : Range) → LiesOver setup name r w
-    → range_if (kept extents name) ≡ Some r
+KeepsExtents setup w extents = (name : ℕ) (r : Extent) → LiesOver setup name r w
+    → kept extents name ≡ Some r
 
 -- the words of each block are there
 abbrev pub AreBrought : Setup → State → Paged → Type 0
-AreBrought setup w memory = (name : ℕ) (r : Range) → LiesOver setup name r w → HasWords r memory
+AreBrought setup w memory = (name : ℕ) (r : Extent) → LiesOver setup name r w → HasWords r memory
 
 -- what an operation makes, unless the name is held
 abbrev pub if_absent : Bool → Making → Option Making

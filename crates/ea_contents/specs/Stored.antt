@@ -1,6 +1,6 @@
 -- Blocks that lie in a memory.
 use Rattle.std.specs.Prelude.{ℕ, ◌+◌, ◌≤◌, List, length}
-use Rattle.ea_outcome.specs.declared.extents.Extent.{Extent}
+use Rattle.ea_model.specs.declared.carriers.Extent.{Extent}
 
 -- it has a unit at least, and all of them have words in the memory
 abbrev pub IsStored : Extent → List ℕ → Type 0

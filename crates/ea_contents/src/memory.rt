@@ -5,11 +5,9 @@ ghost use Rattle.ea_contents.specs.Agreeing.{memory_made, source_in};
 ghost use Rattle.ea_contents.specs.Memory.{with_words, words_from, words_of};
 ghost use Rattle.ea_contents.specs.Paging.{AreThere, HasWords, StaysThere};
 ghost use Rattle.ea_contents.specs.Stored.{IsStored};
-ghost use Rattle.ea_outcome.specs.Extents.{range_if, range_of};
 
 use crate::pages::Pages;
-use ea_model::OutOfMemory;
-use ea_outcome::Extent;
+use ea_model::{Extent, OutOfMemory};
 use std::alloc::Global;
 use std::marker::Model;
 
@@ -49,7 +47,7 @@ impl Memory {
     pub fn read(&self, block: Extent, index: u32) -> u32
         requires stored { IsStored block self.now.words }
         requires within { index + 1 < block.units }
-        ensures { result ≡ get_or (words_of (range_of block) self.now.words) index 0 }
+        ensures { result ≡ get_or (words_of block self.now.words) index 0 }
     {
         self.pages.word(block.first as usize + 1 + index as usize)
     }
@@ -57,10 +55,9 @@ impl Memory {
     /// The word of the block with that index becomes the value.
     pub fn write(&mut self, block: Extent, index: u32, value: u32)
         requires stored { IsStored block self.old.words }
-        requires there { HasWords (range_of block) self.old }
+        requires there { HasWords block self.old }
         requires within { index + 1 < block.units }
-        ensures words { self.new.words
-            ≡ slice_set self.old.words (words_from (range_of block) + index) value }
+        ensures words { self.new.words ≡ slice_set self.old.words (words_from block + index) value }
         ensures there { self.new.there ≡ self.old.there }
     {
         self.pages
@@ -73,9 +70,9 @@ impl Memory {
         requires from { IfSome from (λ old. IsStored old self.old.words) }
         requires fits { at + most ≤ length self.old.words }
         requires there { AreThere at most self.old }
-        ensures count { result ≡ min most (length (source_in self.old.words (range_if from))) }
+        ensures count { result ≡ min most (length (source_in self.old.words from)) }
         ensures carried { self.new.words ≡ with_words at
-            (take most (source_in self.old.words (range_if from))) self.old.words }
+            (take most (source_in self.old.words from)) self.old.words }
         ensures there { self.new.there ≡ self.old.there }
     {
         let Some(old) = from else {
@@ -98,8 +95,8 @@ impl Memory {
         requires stored { IsStored block self.old.words }
         requires from { IfSome from (λ old. IsStored old self.old.words) }
         ensures words { OnOk result (self.new.words
-            ≡ memory_made self.old.words (Some (range_of block)) (range_if from)) }
-        ensures there { OnOk result (HasWords (range_of block) self.new) }
+            ≡ memory_made self.old.words (Some block) from) }
+        ensures there { OnOk result (HasWords block self.new) }
         ensures kept { StaysThere self.old self.new }
         ensures fails { OnErr result (self.new.words ≡ self.old.words) }
     {

@@ -18,15 +18,13 @@ ghost use Rattle.ea_model.specs.Outcome.{plain_outcome};
 ghost use Rattle.ea_model.specs.Settings.{IsValidConfig, region_pages};
 ghost use Rattle.ea_model.specs.Trace.{IsValidTrace};
 ghost use Rattle.ea_model.specs.declared.units.TheConstants.{PAGE_UNITS};
-ghost use Rattle.ea_outcome.specs.Extents.{range_if, range_of};
 ghost use Rattle.ea_sched.specs.Acting.{is_ended};
 ghost use Rattle.ea_sound.specs.Over.{LiesOver, units_named};
 
 use crate::access::Making;
 use crate::memory::Memory;
 use ea_given::GivenRun;
-use ea_model::{Config, Op, OutOfMemory, Outcome, PAGE_UNITS, Trace};
-use ea_outcome::Extent;
+use ea_model::{Config, Extent, Op, OutOfMemory, Outcome, PAGE_UNITS, Trace};
 use std::alloc::Global;
 
 /// What an operation makes, if it makes a name.
@@ -97,8 +95,8 @@ fn keep(
         (λ old. IsStored old memory.old.words) }
     requires place { making.fresh < length extents.old }
     ensures memory { OnOk result (memory.new.words ≡ memory_made memory.old.words
-        (Some (range_of block)) (range_if (kept_if extents.old making.source))) }
-    ensures there { OnOk result (HasWords (range_of block) memory.new) }
+        (Some block) (kept_if extents.old making.source)) }
+    ensures there { OnOk result (HasWords block memory.new) }
     ensures kept { StaysThere memory.old memory.new }
     ensures extents { OnOk result
         (extents.new ≡ slice_set extents.old making.fresh (Some block)) }
@@ -207,7 +205,7 @@ impl<'t> Session<'t> {
         requires held { SessionTells (λ setup turns lists. IsHeld (run setup turns) name)
             self.now }
         ensures { SessionTells (λ setup turns lists.
-            LiesOver setup name (range_of result) (run setup turns)) self.now }
+            LiesOver setup name result (run setup turns)) self.now }
     {
         match kept(&self.extents, name) {
             Some(block) => block,

@@ -207,9 +207,10 @@ with_size None n is = absurd cc
 with_size (Some b) n is = cc
 
 -- a block and the gap behind it lie in their carrier
-pub extent-within : (c : Content) (offset : ℕ) → IsLaidOut c → IsSome (block_at c.blocks offset)
+pub block_and_gap-within : (c : Content) (offset : ℕ) → IsLaidOut c
+    → IsSome (block_at c.blocks offset)
     → offset + size_of (block_at c.blocks offset) + gap_behind c offset ≤ c.units
-extent-within c offset laid h =
+block_and_gap-within c offset laid h =
     let s = some_value (block_at c.blocks offset) h in
     omega (arith, (block_at-IsBlock c offset s.0 laid.tiled s.1).within, ap size_of s.1)
 
@@ -226,7 +227,7 @@ resizing-low number offset units name address r cs new laid w =
     let sound = item_at-All number_of IsLaidOut number w.content cs laid.sound w.there in
     omega (
       arith,
-      extent-within w.content offset sound w.block.block,
+      block_and_gap-within w.content offset sound w.block.block,
       sound.low,
       w.block.place,
       w.block.was,

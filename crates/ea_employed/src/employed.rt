@@ -24,7 +24,7 @@ use std::marker::Model;
 
 /// A block, and the gap directly after it.
 #[derive(Clone, Copy)]
-pub struct Extent {
+pub struct BlockAndGap {
     /// The units of the block.
     pub size: u32,
     /// The units of the gap, or 0.
@@ -127,13 +127,13 @@ impl Employed {
     }
 
     /// The block at `offset`, and the gap directly after it.
-    pub fn extent(&self, offset: u32) -> Extent
+    pub fn block_and_gap(&self, offset: u32) -> BlockAndGap
         requires { IsSome (block_at self.now.blocks offset) }
         ensures size { result.size ≡ size_of (block_at self.now.blocks offset) }
         ensures after { result.after ≡ gap_behind self.now offset }
     {
         match self.carrier.block_at(offset) {
-            Some(block) => Extent {
+            Some(block) => BlockAndGap {
                 size: block.size,
                 after: self.carrier.gap_behind(offset),
             },

@@ -3,13 +3,13 @@ use Rattle.std.proofs.Common.{◌≡◌, ℕ, ◌-◌, ◌<◌, ◌≤◌, get_o
 use Rattle.std.proofs.Common.{inl, inr, arith}
 use Rattle.std.specs.Prelude.{◌==◌, Option, None, Some, option_map}
 use Rattle.std.proofs.lemmas.Option.{slice_get_cases}
+use Rattle.ea_model.specs.declared.carriers.Extent.{Extent}
 use Rattle.ea_model.specs.declared.carriers.Spot.{Spot}
 use Rattle.ea_model.specs.declared.settings.Config.{Config}
 use Rattle.ea_model.specs.declared.trace.Trace.{Trace}
 use Rattle.ea_model.specs.Settings.{IsValidConfig}
 use Rattle.ea_model.specs.Trace.{IsScheduler, IsValidTrace}
 use Rattle.ea_model.proofs.Rising.{item_at-key}
-use Rattle.ea_laws.specs.InOrder.{Range}
 use Rattle.ea_machine.specs.declared.nodes.Named.{Named}
 use Rattle.ea_machine.specs.Actor.{Actor}
 use Rattle.ea_machine.specs.Machine.{IsReached, run}
@@ -102,7 +102,7 @@ module _ (r : GivenRun) (me : ℕ) (has : HasScheduler me r) (name : ℕ) where
           ]
 
   -- where the block lies that the schedulers have
-  pub lies-told : (p : Spot) (q : Range) → HasSpot r.schedulers.items r.shared.given name p
+  pub lies-told : (p : Spot) (q : Extent) → HasSpot r.schedulers.items r.shared.given name p
       → LiesWhere r.config r.trace.now r.schedulers.items (place_at r.shared.places)
       r.shared.given p q
       → Tells (λ setup turns. LiesOver setup name q (run_with_stops setup turns)) r
@@ -113,7 +113,7 @@ module _ (r : GivenRun) (me : ℕ) (has : HasScheduler me r) (name : ℕ) where
       at.config (lies taken (run-stands r c t turns at) name spot))
 
   -- it lies in the super carrier
-  pub fits-told : (q : Range)
+  pub fits-told : (q : Extent)
       → Tells (λ setup turns. LiesOver setup name q (run_with_stops setup turns)) r
       → Tells (λ setup turns. FitsSuperCarrier setup q) r
   fits-told q lies c t turns at =

@@ -1,12 +1,12 @@
 -- The run of a trace, as it stands after some turns.
 use Rattle.std.specs.Prelude.{◌≡◌, ℕ, ◌+◌, ◌-◌, ◌*◌, ◌≤◌, Bool, false, List, ◌++◌, Option}
 use Rattle.std.specs.Prelude.{is_some, length, slice_get}
+use Rattle.ea_model.specs.declared.carriers.Extent.{Extent}
 use Rattle.ea_model.specs.declared.carriers.Spot.{Spot}
 use Rattle.ea_model.specs.declared.settings.Config.{Config}
 use Rattle.ea_model.specs.declared.trace.Trace.{Trace}
 use Rattle.ea_model.specs.declared.units.TheConstants.{PAGE_UNITS}
 use Rattle.ea_model.specs.Trace.{IsScheduler}
-use Rattle.ea_laws.specs.InOrder.{Range}
 use Rattle.ea_machine.specs.Completion.{complete}
 use Rattle.ea_machine.specs.Nodes.{named_at, spot_named}
 use Rattle.ea_machine.specs.Setup.{Setup, setup_of}
@@ -77,7 +77,7 @@ abbrev pub left_in : ℕ → GivenRun → ℕ
 left_in me run = left_to (slice_get run.schedulers.items (me - 1)) run.shared
 
 -- these are units of the super carrier, and at least one
-abbrev pub FitsSuperCarrier : Setup → Range → Type 0
+abbrev pub FitsSuperCarrier : Setup → Extent → Type 0
 FitsSuperCarrier setup r = (1 ≤ r.units)
     × (r.first + r.units ≤ PAGE_UNITS * (setup.schedulers * setup.pages))
 

@@ -12,7 +12,6 @@ ghost use Rattle.ea_sound.specs.Over.{LiesOver};
 ghost use Rattle.ea_machine.specs.Outcome as machine;
 ghost use Rattle.ea_machine.specs.Setup.{setup_of};
 ghost use Rattle.ea_instance.specs.Layouts.{plain_layout};
-ghost use Rattle.ea_outcome.specs.Extents.{range_of};
 ghost use Rattle.ea_outcome.specs.Layouts.{layouts_in};
 ghost use Rattle.ea_given.specs.Layouts.{is_scheduled, layouts_of_run};
 ghost use Rattle.ea_given.specs.Running.{AllRanOut, AllStand, AllStandAt, AllTook};
@@ -25,8 +24,8 @@ use crate::turns::{run_out, step_some, take_turns};
 use ea_instance::Layout;
 use ea_mbc::Mbc;
 use ea_mem_shared::MemShared;
-use ea_model::{Config, List, OutOfMemory, Outcome, Spot, Trace, Turns};
-use ea_outcome::{Extent, extent_of, layouts_of, outcome_of};
+use ea_model::{Config, Extent, List, OutOfMemory, Outcome, Spot, Trace, Turns};
+use ea_outcome::{extent_of, layouts_of, outcome_of};
 use ea_sched::Scheduler;
 use std::alloc::Global;
 
@@ -201,9 +200,9 @@ impl<'t> GivenRun<'t> {
         ensures held { Tells (λ setup turns.
             is_some result ≡ holds_after setup turns me name) self.now }
         ensures lies { IfSome result (λ x. Tells (λ setup turns.
-            LiesOver setup name (range_of x) (run_with_stops setup turns)) self.now) }
+            LiesOver setup name x (run_with_stops setup turns)) self.now) }
         ensures fits { IfSome result (λ x. Tells (λ setup turns.
-            FitsSuperCarrier setup (range_of x)) self.now) }
+            FitsSuperCarrier setup x) self.now) }
     {
         let spot = self.spot_of(me, name)?;
         Some(extent_of(

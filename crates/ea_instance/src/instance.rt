@@ -500,7 +500,7 @@ impl Instance {
             (λ units. units ≡ resized_to self.old (spot_in found offset) need) }
         ensures resized { self.new ≡ resizing_at self.old (spot_in found offset) need name }
     {
-        let block = self.carriers.at(found).extent(offset);
+        let block = self.carriers.at(found).block_and_gap(offset);
         let behind = block.after;
         match decide(self.settings, block.size, need, Where::Multi { behind }) {
             Decision::Stay => Some(self.carriers.rename(found, offset, name)),

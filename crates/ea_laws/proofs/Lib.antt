@@ -15,7 +15,7 @@ pub mod Laid
 pub mod Orderly
 pub mod Orders
 pub mod Owned
-pub mod Ranges
+pub mod Extents
 pub mod Reallocating
 pub mod Refusals
 pub mod RegionUnits

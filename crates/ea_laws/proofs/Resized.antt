@@ -14,7 +14,7 @@ use Rattle.ea_model.proofs.Rising.{item_at-key, item_at-All, changed_here, chang
 use Rattle.ea_model.proofs.Rising.{changed_none, changed-found, changed-other}
 use Rattle.ea_laws.proofs.BlockLists.{offset_of, gap_at-step, gap_at-behind, gap_at-whole}
 use Rattle.ea_laws.proofs.BlockLists.{block_at-past, Tiled-behind, Enters, taken_of-enters}
-use Rattle.ea_laws.proofs.Ranges.{IsWithin, blocks_within}
+use Rattle.ea_laws.proofs.Extents.{IsWithin, blocks_within}
 use Rattle.ea_laws.proofs.Tiling.{Tiled-Ordered, Tiled-allocated}
 
 -- where the first block begins, or the end

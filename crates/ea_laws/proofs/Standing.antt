@@ -63,7 +63,7 @@ use Rattle.ea_laws.proofs.CarrierSegments.{free-own}
 use Rattle.ea_laws.proofs.Apart.{altered, apart-changed, turned-apart}
 use Rattle.ea_laws.proofs.Candidates.{candidate-IsOwned, IsOwned, IsLarge, large_among}
 use Rattle.ea_laws.proofs.Inspected.{inspected_by-among}
-use Rattle.ea_laws.proofs.Ranges.{IsOrdered, blocks-disjoint}
+use Rattle.ea_laws.proofs.Extents.{IsOrdered, blocks-disjoint}
 use Rattle.ea_laws.proofs.Sums.{IsSmall, all-units}
 use Rattle.ea_laws.proofs.Tiling.{Tiled-Ordered, one-Ordered}
 

@@ -5,7 +5,7 @@ use Rattle.std.proofs.lemmas.List.Elements.{All-head, All-tail}
 use Rattle.std.proofs.lemmas.List.Sums.{sum_by-cons}
 use Rattle.ea_model.specs.declared.units.TheConstants.{MAX_UNITS}
 use Rattle.ea_model.specs.Content.{Content, allocated, free_units, gaps_of}
-use Rattle.ea_laws.proofs.Ranges.{IsOrdered}
+use Rattle.ea_laws.proofs.Extents.{IsOrdered}
 use Rattle.ea_laws.proofs.Tiling.{Ordered-allocated, Ordered-free}
 
 pub all-units : (cs : List Content) → All IsOrdered cs

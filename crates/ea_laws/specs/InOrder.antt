@@ -1,27 +1,23 @@
 -- An instance at one moment: where its blocks and its carriers lie, and what their units come to.
-use Rattle.std.specs.Prelude.{◌≡◌, ℕ, ◌+◌, ◌*◌, List, All, AllPairs, length, map, sum_by}
+use Rattle.std.specs.Prelude.{◌≡◌, ◌+◌, ◌*◌, List, All, AllPairs, length, map, sum_by}
 use Rattle.std.specs.List.{flat_map}
+use Rattle.ea_model.specs.declared.carriers.Extent.{Extent}
 use Rattle.ea_model.specs.declared.units.TheConstants.{HEADER_UNITS, NUMBERS, PAGE_UNITS}
 use Rattle.ea_model.specs.Content.{Content, allocated, free_units, gaps_of, Tiled}
 use Rattle.ea_model.specs.Region.{AreApart, Laid}
 use Rattle.ea_model.specs.Instance.{Instance, employed, first_number, segments}
 use Rattle.ea_laws.specs.Kept.{ContentsApart, HasNumberIn, HasOneBlock, IsRising, IsWhole}
 
--- units of the super carrier, from the first one on
-pub record Range : Type 0 where
-  pub first : ℕ
-  pub units : ℕ
-
 -- the units of each block; a page has 512 units
-abbrev pub ranges_in : Content → List Range
-ranges_in c = map (λ b. record { first = PAGE_UNITS * c.base + b.offset; units = b.size }) c.blocks
+abbrev pub extents_in : Content → List Extent
+extents_in c = map (λ b. record { first = PAGE_UNITS * c.base + b.offset; units = b.size }) c.blocks
 
-abbrev pub ranges : List Content → List Range
-ranges cs = flat_map ranges_in cs
+abbrev pub extents : List Content → List Extent
+extents cs = flat_map extents_in cs
 
 -- no unit is one of both
-abbrev pub RangesApart : Range → Range → Type 0
-RangesApart a b = AreApart a.first a.units b.first b.units
+abbrev pub ExtentsApart : Extent → Extent → Type 0
+ExtentsApart a b = AreApart a.first a.units b.first b.units
 
 -- no two blocks have a unit in common; in a multiblock carrier they lie one after another, after
 -- its header and with whole gaps between them, and a singleblock carrier has one at most; each
@@ -29,7 +25,7 @@ RangesApart a b = AreApart a.first a.units b.first b.units
 -- instance owns have its numbers, and their segments lie apart, inside its region; blocks, gaps and
 -- headers are all units of the carriers
 pub record IsInOrder (i : Instance) : Type 0 where
-  pub disjoint : AllPairs RangesApart (ranges (employed i))
+  pub disjoint : AllPairs ExtentsApart (extents (employed i))
   pub tiled : All (λ c. Tiled HEADER_UNITS c.units c.blocks) i.contents
   pub single : All (λ c. HasOneBlock c.units c.blocks) i.singles
   pub whole : All IsWhole (employed i)

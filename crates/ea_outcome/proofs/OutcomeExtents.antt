@@ -6,6 +6,7 @@ use Rattle.std.specs.Prelude.{IfSome, Option, None, Some, get_or, length, option
 use Rattle.std.proofs.Math.Nat.{mul-div-le}
 use Rattle.std.proofs.lemmas.Option.{get_or_from_slice_get, slice_get_cases}
 use Rattle.ea_model.specs.declared.carriers.BlockAt.{BlockAt}
+use Rattle.ea_model.specs.declared.carriers.Extent.{Extent}
 use Rattle.ea_model.specs.declared.carriers.Spot.{Spot}
 use Rattle.ea_model.specs.declared.settings.Config.{Config}
 use Rattle.ea_model.specs.declared.trace.Trace.{Trace}
@@ -15,7 +16,6 @@ use Rattle.ea_model.specs.Settings.{IsValidConfig}
 use Rattle.ea_model.specs.Trace.{IsValidTrace}
 use Rattle.ea_model.proofs.Options.{same-some}
 use Rattle.ea_model.proofs.Rising.{item_at-key}
-use Rattle.ea_laws.specs.InOrder.{Range}
 use Rattle.ea_machine.specs.declared.nodes.Named.{Named}
 use Rattle.ea_machine.specs.Actor.{Actor}
 use Rattle.ea_machine.specs.Machine.{run}
@@ -41,7 +41,7 @@ use Rattle.ea_sound.proofs.SoundRanges.{number-scheduler}
 use Rattle.ea_sound.proofs.Totals.{total-part}
 use Rattle.ea_sched.specs.declared.state.Scheduler.{Scheduler}
 use Rattle.ea_sched.specs.Acting.{actor_of}
-use Rattle.ea_outcome.specs.Extents.{HasSpot, range_at}
+use Rattle.ea_outcome.specs.Extents.{HasSpot, extent_at}
 use Rattle.ea_outcome.specs.Resting.{StandIn, carrier_of}
 use Rattle.ea_outcome.proofs.OutcomeSums.{first-listed, many-schedulers, present-is, scheduler-is}
 
@@ -63,11 +63,11 @@ stands-among n p names is = by (named_at n names) refl is where
   )
 
 -- the units of a block that is found
-range-found : (p : Spot) (o : Option Present) (x : Content) (b : BlockAt)
+extent-found : (p : Spot) (o : Option Present) (x : Content) (b : BlockAt)
     → option_map content_in o ≡ Some x → block_at x.blocks p.offset ≡ Some b
-    → range_at p o ≡ Some (record { first = 512 * x.base + p.offset; units = b.size })
-range-found p None x b there found = absurd cc
-range-found p (Some q) x b there found =
+    → extent_at p o ≡ Some (record { first = 512 * x.base + p.offset; units = b.size })
+extent-found p None x b there found = absurd cc
+extent-found p (Some q) x b there found =
     let same : q.content ≡ x = same-some (Some q.content) q.content x refl there in
     ap (λ y. option_map (λ d. record { first = 512 * y.base + p.offset; units = d.size })
     (block_at y.blocks p.offset)) same
@@ -135,11 +135,11 @@ module _ (c : Config) (t : Trace) (valid : IsValidConfig c) (made : IsValidTrace
     pub has-carrier : IsNumber e p.carrier
     has-carrier = is.number
 
-    abbrev units : Range
-    units = record { first = 512 * is.content.base + p.offset; units = is.block.size }
+    abbrev extent : Extent
+    extent = record { first = 512 * is.content.base + p.offset; units = is.block.size }
 
-    range-is : range_at p (carrier_of m places ss p.carrier) ≡ Some units
-    range-is = range-found p (carrier_of m places ss p.carrier) is.content is.block
+    extent-is : extent_at p (carrier_of m places ss p.carrier) ≡ Some extent
+    extent-is = extent-found p (carrier_of m places ss p.carrier) is.content is.block
         (sym (first-listed (carrier_of m places ss p.carrier))
         ∙ sym (ap first_content (present-is c t valid made m mode ss places given turns stand
         p.carrier is.number))
@@ -147,20 +147,21 @@ module _ (c : Config) (t : Trace) (valid : IsValidConfig c) (made : IsValidTrace
         is.found
 
     -- it is there
-    pub range-there : range_at p (carrier_of m places ss p.carrier) ≡ None → ⊥
-    range-there none = let no : None ≡ Some units = sym none ∙ range-is in cc
+    pub extent-there : extent_at p (carrier_of m places ss p.carrier) ≡ None → ⊥
+    extent-there none = let no : None ≡ Some extent = sym none ∙ extent-is in cc
 
     -- it begins at a unit of the super carrier
-    pub range-fits : IfSome (range_at p (carrier_of m places ss p.carrier)) (λ r. r.first < 2 ^ 32)
-    range-fits = subst (λ o. IfSome o (λ r. r.first < 2 ^ 32)) (sym range-is) (omega (
+    pub extent-fits : IfSome (extent_at p (carrier_of m places ss p.carrier))
+        (λ r. r.first < 2 ^ 32)
+    extent-fits = subst (λ o. IfSome o (λ r. r.first < 2 ^ 32)) (sym extent-is) (omega (
       arith,
-      (lie-apart e w k).within n units is.lies,
+      (lie-apart e w k).within n extent is.lies,
       region-small c.schedulers c.scs e.pages valid.space.1 refl,
     ))
 
     -- the block of the name has these units
-    pub lies-there : (r : Range) → Some r ≡ range_at p (carrier_of m places ss p.carrier)
+    pub lies-there : (r : Extent) → Some r ≡ extent_at p (carrier_of m places ss p.carrier)
         → LiesOver e n r w
     lies-there r found = subst (λ q. LiesOver e n q w)
-        (same-some (range_at p (carrier_of m places ss p.carrier)) units r range-is (sym found))
-        is.lies
+        (same-some (extent_at p (carrier_of m places ss p.carrier)) extent r extent-is
+        (sym found)) is.lies

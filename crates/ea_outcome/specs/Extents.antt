@@ -1,12 +1,12 @@
 -- Where blocks lie in the super carrier.
 use Rattle.std.specs.Prelude.{◌≡◌, ◌⊎◌, ℕ, ◌+◌, ◌*◌, List, Option, Some, option_map, slice_get}
 use Rattle.std.specs.Option.{option_and_then}
+use Rattle.ea_model.specs.declared.carriers.Extent.{Extent}
 use Rattle.ea_model.specs.declared.carriers.Spot.{Spot}
 use Rattle.ea_model.specs.declared.settings.Config.{Config}
 use Rattle.ea_model.specs.declared.trace.Trace.{Trace}
 use Rattle.ea_model.specs.declared.units.TheConstants.{PAGE_UNITS}
 use Rattle.ea_model.specs.Content.{block_at}
-use Rattle.ea_laws.specs.InOrder.{Range}
 use Rattle.ea_machine.specs.declared.nodes.Named.{Named}
 use Rattle.ea_machine.specs.Machine.{run}
 use Rattle.ea_machine.specs.Nodes.{spot_named}
@@ -15,25 +15,17 @@ use Rattle.ea_machine.specs.Owners.{CarrierAt}
 use Rattle.ea_machine.specs.Setup.{setup_of}
 use Rattle.ea_sound.specs.Over.{LiesOver}
 use Rattle.ea_sched.specs.declared.state.Scheduler.{Scheduler}
-use Rattle.ea_outcome.specs.declared.extents.Extent.{Extent}
 use Rattle.ea_outcome.specs.Resting.{StandIn}
 
--- the units of a block
-abbrev pub range_of : Extent → Range
-range_of x = record { first = x.first; units = x.units }
-
-abbrev pub range_if : Option Extent → Option Range
-range_if x = option_map range_of x
-
 -- the units of the block at an offset of a carrier, if one begins there
-abbrev pub range_in : ℕ → Present → Option Range
-range_in offset p = option_map
+abbrev pub extent_in : ℕ → Present → Option Extent
+extent_in offset p = option_map
     (λ b. record { first = PAGE_UNITS * p.content.base + offset; units = b.size })
     (block_at p.content.blocks offset)
 
 -- those of the block at a spot, if its carrier is there and a block begins there
-abbrev pub range_at : Spot → Option Present → Option Range
-range_at spot carrier = option_and_then (range_in spot.offset) carrier
+abbrev pub extent_at : Spot → Option Present → Option Extent
+extent_at spot carrier = option_and_then (extent_in spot.offset) carrier
 
 module _ (schedulers : List Scheduler) (named : List Named) where
   -- the block of the name begins at the spot: one of the schedulers holds the name, or it is given
@@ -50,7 +42,7 @@ module _ (c : Config) (t : Trace) (schedulers : List Scheduler) (places : ℕ �
     (named : List Named) where
   -- the block of each such name lies over these units, in the state after all turns after which
   -- these stand so
-  abbrev pub LiesWhere : Spot → Range → Type 0
+  abbrev pub LiesWhere : Spot → Extent → Type 0
   LiesWhere spot r = (turns : List ℕ) → StandIn c t schedulers places named turns
       → (name : ℕ) → HasSpot schedulers named name spot
       → LiesOver (setup_of c t) name r (run (setup_of c t) turns)

@@ -4,30 +4,23 @@ ghost use Rattle.ea_model.specs.Settings.{IsValidConfig};
 ghost use Rattle.ea_model.specs.Trace.{IsValidTrace};
 ghost use Rattle.ea_machine.specs.Setup.{migration, setup_of};
 ghost use Rattle.ea_shared.specs.Carriers.{IsCarrier};
-ghost use Rattle.ea_outcome.specs.Extents.{IsNamed, LiesWhere, range_at, range_if, range_of};
+ghost use Rattle.ea_outcome.specs.Extents.{IsNamed, LiesWhere};
+ghost use Rattle.ea_outcome.specs.Extents as extents;
 ghost use Rattle.ea_outcome.specs.Finding.{present_with};
 ghost use Rattle.ea_outcome.specs.Resting.{Stand, carrier_of};
 
 use crate::finding::find;
 use crate::found::Found;
 use ea_mbc::Mbc;
-use ea_model::{Config, PAGE_UNITS, Spot, Trace};
+use ea_model::{Config, Extent, PAGE_UNITS, Spot, Trace};
 use ea_sched::{Scheduler, migrates};
 use ea_shared::Rested;
 
-/// The units of the super carrier that a block has: the first of them, counted from the first unit
-/// of the super carrier, and how many.
-#[derive(Debug, Clone, Copy, PartialEq, Eq)]
-pub struct Extent {
-    pub first: u32,
-    pub units: u32,
-}
-
 /// The extent of the block at the spot, if the carrier is there and a block begins there.
 fn extent_in(carrier: &Found<'_>, spot: Spot) -> Option<Extent>
-    requires { IfSome (range_at spot (present_with spot.carrier carrier.now))
+    requires { IfSome (extents.extent_at spot (present_with spot.carrier carrier.now))
         (λ r. r.first < 2 ^ 32) }
-    ensures { range_if result ≡ range_at spot (present_with spot.carrier carrier.now) }
+    ensures { result ≡ extents.extent_at spot (present_with spot.carrier carrier.now) }
 {
     let block = carrier.block_at(spot)?;
     let line = carrier.line(spot.carrier)?;
@@ -46,10 +39,10 @@ fn extent_at<H: Rested<Content = Mbc>>(
 ) -> Option<Extent>
     requires migrates { migrates ≡ (H.shared shared.now).migrates }
     requires number { IsCarrier (H.shared shared.now).schedulers spot.carrier }
-    requires fits { IfSome (range_at spot
+    requires fits { IfSome (extents.extent_at spot
         (carrier_of migrates (H.shared shared.now).places schedulers.now spot.carrier))
         (λ r. r.first < 2 ^ 32) }
-    ensures { range_if result ≡ range_at spot
+    ensures { result ≡ extents.extent_at spot
         (carrier_of migrates (H.shared shared.now).places schedulers.now spot.carrier) }
 {
     let carrier = find(schedulers, shared, migrates, spot.carrier)?;
@@ -75,7 +68,7 @@ pub fn extent_of<H: Rested<Content = Mbc>>(
         (H.shared shared.now).named }
     requires named { IsNamed schedulers.now (H.shared shared.now).named spot }
     ensures { LiesWhere config trace.now schedulers.now (H.shared shared.now).places
-        (H.shared shared.now).named spot (range_of result) }
+        (H.shared shared.now).named spot result }
 {
     match extent_at(schedulers, shared, migrates(config, trace), spot) {
         Some(extent) => extent,

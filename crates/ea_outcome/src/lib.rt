@@ -9,6 +9,6 @@ mod layouts;
 mod outcome;
 mod units;
 
-pub use extents::{Extent, extent_of};
+pub use extents::extent_of;
 pub use layouts::layouts_of;
 pub use outcome::outcome_of;

@@ -2,7 +2,7 @@
 use Rattle.std.proofs.Common.{ℕ, ◌<◌, List, [], ◌∷◌, ◌++◌, refl, sym, ap, subst}
 use Rattle.std.proofs.Common.{arith, inl, inr}
 use Rattle.std.proofs.lemmas.Bool.{cases_lt}
-use Rattle.ea_laws.specs.InOrder.{Range}
+use Rattle.ea_model.specs.declared.carriers.Extent.{Extent}
 use Rattle.ea_machine.specs.Machine.{run}
 use Rattle.ea_machine.specs.Setup.{Setup}
 use Rattle.ea_machine.specs.State.{State}
@@ -40,7 +40,7 @@ module _ (e : Setup) (w : State) (rule : Rule e w) (n : ℕ) where
         ))
       ]
 
-  lies : IsLive n w → (r : Range) × LiesOver e n r w
+  lies : IsLive n w → (r : Extent) × LiesOver e n r w
   lies live = lies-somewhere e w n (live-block live)
 
 pub is-heap : (e : Setup) → ((L : List ℕ) → Rule e (run e L)) → IsHeap e
@@ -62,7 +62,7 @@ is-heap e rules = record {
   );
   keeps = kept;
 } where
-  kept : (L M : List ℕ) (n : ℕ) (r : Range) → HasUnits e n r (run e L)
+  kept : (L M : List ℕ) (n : ℕ) (r : Extent) → HasUnits e n r (run e L)
       → IsLive n (run e (L ++ M)) → HasUnits e n r (run e (L ++ M))
   kept L M n r has live =
       let at = lies e (run e (L ++ M)) (rules (L ++ M)) n live in (

@@ -7,8 +7,9 @@ use Rattle.std.proofs.lemmas.Bool.{cases_eq, cases_lt}
 use Rattle.std.proofs.lemmas.List.Elements.{All-head}
 use Rattle.ea_model.specs.Content.{Content}
 use Rattle.ea_model.specs.declared.carriers.BlockAt.{BlockAt}
-use Rattle.ea_laws.specs.InOrder.{Range, RangesApart}
-use Rattle.ea_laws.proofs.Ranges.{IsWithin, blocks_within}
+use Rattle.ea_model.specs.declared.carriers.Extent.{Extent}
+use Rattle.ea_laws.specs.InOrder.{ExtentsApart}
+use Rattle.ea_laws.proofs.Extents.{IsWithin, blocks_within}
 use Rattle.ea_laws.proofs.Tiling.{Ordered, Tiled-Ordered, one-Ordered}
 use Rattle.ea_machine.specs.Machine.{run}
 use Rattle.ea_machine.specs.Setup.{Setup}
@@ -34,13 +35,13 @@ use Rattle.ea_sound.proofs.SumParts.{AreParts, sum-nothing, sum-parts}
 use Rattle.ea_sound.proofs.Weights.{sum-both, sum-less, sum-none}
 
 -- the block of the name with these units
-abbrev over : ℕ → Range → ℕ → BlockAt → ℕ
+abbrev over : ℕ → Extent → ℕ → BlockAt → ℕ
 over n r base b = one_if (is_over n r base b)
 
-over-small : (n : ℕ) (r : Range) (base : ℕ) (b : BlockAt) → over n r base b ≤ one_if (b.name == n)
+over-small : (n : ℕ) (r : Extent) (base : ℕ) (b : BlockAt) → over n r base b ≤ one_if (b.name == n)
 over-small n r base b = grind arith
 
-abbrev overing : ℕ → Range → Counting
+abbrev overing : ℕ → Extent → Counting
 overing n r = record {
   name = n;
   counts = λ number base b. over n r base b;
@@ -48,11 +49,11 @@ overing n r = record {
 }
 
 module _ (n : ℕ) where
-  -- no block has two ranges
-  abbrev AreTwo : Range → Range → Type 0
+  -- no block has two extents
+  abbrev AreTwo : Extent → Extent → Type 0
   AreTwo r q = (base : ℕ) (b : BlockAt) → over n r base b + over n q base b ≤ one_if (b.name == n)
 
-  other-firsts : (r q : Range) → r.first ≢ q.first → AreTwo r q
+  other-firsts : (r q : Extent) → r.first ≢ q.first → AreTwo r q
   other-firsts r q other base b = firsts (512 * base + b.offset) where
     firsts : (at : ℕ)
         → one_if ((b.name == n) && ((at == r.first) && (b.size == r.units)))
@@ -60,17 +61,17 @@ module _ (n : ℕ) where
         ≤ one_if (b.name == n)
     firsts at = grind (arith, other)
 
-  other-units : (r q : Range) → r.units ≢ q.units → AreTwo r q
+  other-units : (r q : Extent) → r.units ≢ q.units → AreTwo r q
   other-units r q other base b = grind (arith, other)
 
-same-range : (r q : Range) → r.first ≡ q.first → r.units ≡ q.units → r ≡ q
-same-range r q first units =
+same-extent : (r q : Extent) → r.first ≡ q.first → r.units ≡ q.units → r ≡ q
+same-extent r q first units =
     ap (λ m. record { first = m; units = r.units }) first
     ∙ ap (λ m. record { first = q.first; units = m }) units
 
 module _ (e : Setup) where
-  -- the blocks of a name at two ranges are not more than all of the name
-  both-named : (n : ℕ) (r q : Range) → AreTwo n r q → (w : State) → Kept e w
+  -- the blocks of a name at two extents are not more than all of the name
+  both-named : (n : ℕ) (r q : Extent) → AreTwo n r q → (w : State) → Kept e w
       → sum_everywhere e (blocks_named (overing n r)) w
       + sum_everywhere e (blocks_named (overing n q)) w
       ≤ sum_everywhere e (blocks_named (all_of n)) w
@@ -90,12 +91,12 @@ module _ (e : Setup) where
             (λ i d within. two x.base _)) e w,
       )
 
-  one-by : (n : ℕ) (r q : Range) → (AreTwo n r q → ⊥) → r ≡ q
+  one-by : (n : ℕ) (r q : Extent) → (AreTwo n r q → ⊥) → r ≡ q
   one-by n r q not-two = elim (cases_eq r.first q.first) [
     | inr other ↦ absurd (not-two (other-firsts n r q other))
     | inl first ↦ elim (cases_eq r.units q.units) [
       | inr other ↦ absurd (not-two (other-units n r q other))
-      | inl units ↦ same-range r q first units
+      | inl units ↦ same-extent r q first units
     ]
   ]
 
@@ -129,7 +130,7 @@ ordered x laid = elim laid [
 ]
 
 -- the block of a name with these units is one of a list
-pub record IsOne (n : ℕ) (r : Range) (base at end : ℕ) : Type 0 where
+pub record IsOne (n : ℕ) (r : Extent) (base at end : ℕ) : Type 0 where
   pub block : BlockAt
   pub name : block.name ≡ n
   pub first : 512 * base + block.offset ≡ r.first
@@ -138,7 +139,7 @@ pub record IsOne (n : ℕ) (r : Range) (base at end : ℕ) : Type 0 where
   pub low : at ≤ block.offset
   pub high : block.offset + block.size ≤ end
 
-over-cases : (n : ℕ) (r : Range) (base : ℕ) (b : BlockAt)
+over-cases : (n : ℕ) (r : Extent) (base : ℕ) (b : BlockAt)
     → ((b.name ≡ n) × (512 * base + b.offset ≡ r.first) × (b.size ≡ r.units))
     ⊎ (over n r base b ≡ 0)
 over-cases n r base b = by (512 * base + b.offset) where
@@ -146,7 +147,7 @@ over-cases n r base b = by (512 * base + b.offset) where
       ⊎ (one_if ((b.name == n) && ((at == r.first) && (b.size == r.units))) ≡ 0)
   by at = grind arith
 
-find-one : (n : ℕ) (r : Range) (base at end : ℕ) (bs : List BlockAt) → Ordered at end bs
+find-one : (n : ℕ) (r : Extent) (base at end : ℕ) (bs : List BlockAt) → Ordered at end bs
     → 0 < sum_over (over n r base) bs → IsOne n r base at end
 find-one n r base at end [] t some = absurd (omega (arith, some))
 find-one n r base at end (b ∷ bs) t some = elim (over-cases n r base b) [
@@ -191,7 +192,7 @@ sized-here n b is = by (b.name == n) (grind (arith, is)) where
   by true t = refl
   by false t = absurd cc
 
-sized-in : (n : ℕ) (r : Range) (base : ℕ) (bs : List BlockAt) → 0 < sum_over (over n r base) bs
+sized-in : (n : ℕ) (r : Extent) (base : ℕ) (bs : List BlockAt) → 0 < sum_over (over n r base) bs
     → sum_over (λ b. one_if (b.name == n)) bs ≤ 1 → sum_over (sized n) bs ≡ r.units
 sized-in n r base [] some once = absurd (omega (arith, some))
 sized-in n r base (b ∷ bs) some once = elim (over-cases n r base b) [
@@ -217,9 +218,9 @@ sized-in n r base (b ∷ bs) some once = elim (over-cases n r base b) [
 ]
 
 -- blocks of two names in one carrier
-apart-in : (n m : ℕ) (r q : Range) (base at end : ℕ) (bs : List BlockAt) → n ≢ m
+apart-in : (n m : ℕ) (r q : Extent) (base at end : ℕ) (bs : List BlockAt) → n ≢ m
     → Ordered at end bs → 0 < sum_over (over n r base) bs → 0 < sum_over (over m q base) bs
-    → RangesApart r q
+    → ExtentsApart r q
 apart-in n m r q base at end [] differ t some other = absurd (omega (arith, some))
 apart-in n m r q base at end (b ∷ bs) differ t some other = elim (over-cases n r base b) [
   | inl is ↦ elim (over-cases m q base b) [
@@ -238,7 +239,7 @@ apart-in n m r q base at end (b ∷ bs) differ t some other = elim (over-cases n
 ]
 
 module _ (e : Setup) (w : State) (k : Kept e w) where
-  abbrev in_content : ℕ → Range → Content → ℕ
+  abbrev in_content : ℕ → Extent → Content → ℕ
   in_content n r x = sum_over (over n r x.base) x.blocks
 
   -- some content has something of what all have
@@ -283,9 +284,9 @@ module _ (e : Setup) (w : State) (k : Kept e w) where
     of n = grind arith
 
   -- two blocks in carriers of different numbers
-  apart-across : (n m : ℕ) (r q : Range) (i j : ℕ) (x y : Content) → Belongs e i x → Belongs e j y
+  apart-across : (n m : ℕ) (r q : Extent) (i j : ℕ) (x y : Content) → Belongs e i x → Belongs e j y
       → IsLaidOutAsKind x → IsLaidOutAsKind y → Counts e w x → Counts e w y → x.number ≢ y.number
-      → 0 < in_content n r x → 0 < in_content m q y → RangesApart r q
+      → 0 < in_content n r x → 0 < in_content m q y → ExtentsApart r q
   apart-across n m r q i j x y bx by lx ly cx cy differ some other =
       let b = find-one n r x.base 8 x.units x.blocks (ordered x lx) some in
       let d = find-one m q y.base 8 y.units y.blocks (ordered y ly) other in
@@ -294,7 +295,7 @@ module _ (e : Setup) (w : State) (k : Kept e w) where
         | inr le ↦ inr (omega (arith, le, d.first, d.units, d.high, b.first))
       ]
 
-  overlap : (r q : Range) → RangesApart r q
+  overlap : (r q : Extent) → ExtentsApart r q
       ⊎ ((q.first < r.first + r.units) × (r.first < q.first + q.units))
   overlap r q = elim (cases_lt q.first (r.first + r.units)) [
     | inr le ↦ inl (inl le)
@@ -304,8 +305,8 @@ module _ (e : Setup) (w : State) (k : Kept e w) where
     ]
   ]
 
-  lie-apart-in : (n m : ℕ) (r q : Range) → n ≢ m → LiesOver e n r w → LiesOver e m q w
-      → (RangesApart r q → ⊥) → ⊥
+  lie-apart-in : (n m : ℕ) (r q : Extent) → n ≢ m → LiesOver e n r w → LiesOver e m q w
+      → (ExtentsApart r q → ⊥) → ⊥
   lie-apart-in n m r q differ lies too never =
       let g = in_content m q in
       by-content (in_content n r) lies (λ i x b l c some.

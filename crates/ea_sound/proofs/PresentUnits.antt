@@ -5,12 +5,12 @@ use Rattle.std.proofs.Common.{inl, inr, arith}
 use Rattle.std.specs.Prelude.{Bool, IsSome, Option, None, Some, ◌&&◌, ◌==◌}
 use Rattle.std.proofs.lemmas.Bool.{cases_lt}
 use Rattle.ea_model.specs.declared.carriers.BlockAt.{BlockAt}
+use Rattle.ea_model.specs.declared.carriers.Extent.{Extent}
 use Rattle.ea_model.specs.declared.carriers.Spot.{Spot}
 use Rattle.ea_model.specs.Content.{Content, block_at}
 use Rattle.ea_model.specs.Instance.{content_of}
 use Rattle.ea_model.proofs.Rising.{item_at-key}
 use Rattle.ea_laws.proofs.BlockLists.{offset_of}
-use Rattle.ea_laws.specs.InOrder.{Range}
 use Rattle.ea_laws.specs.Kept.{number_of}
 use Rattle.ea_machine.specs.Setup.{Setup}
 use Rattle.ea_machine.specs.State.{State}
@@ -137,7 +137,7 @@ module _ (e : Setup) (w : State) (k : Kept e w) (n : ℕ) (p : Spot)
           ) in
           let name = itself n b.name (no-other (b.name == n) (of_content (only_at n p) x) some
           (sym (ap (λ o. where_other n o (of_content (only_at n p) x)) q) ∙ none)) in
-          let r : Range = record { first = 512 * x.base + p.offset; units = b.size } in
+          let r : Extent = record { first = 512 * x.base + p.offset; units = b.size } in
           let f : Content → ℕ = λ y. sum_over (λ d. one_if (is_over n r y.base d)) y.blocks in
           record {
             number = number;

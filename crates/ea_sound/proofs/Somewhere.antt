@@ -2,8 +2,8 @@
 use Rattle.std.proofs.Common.{ℕ, zero, suc, ◌+◌, ◌*◌, ◌<◌, ◌≤◌, List, [], ◌∷◌, inl, inr, arith}
 use Rattle.std.specs.Prelude.{◌==◌, ◌&&◌}
 use Rattle.std.proofs.lemmas.Bool.{cases_lt}
+use Rattle.ea_model.specs.declared.carriers.Extent.{Extent}
 use Rattle.ea_model.specs.Content.{Content}
-use Rattle.ea_laws.specs.InOrder.{Range}
 use Rattle.ea_machine.specs.Actor.{Actor}
 use Rattle.ea_machine.specs.declared.stages.Route.{Route}
 use Rattle.ea_machine.specs.declared.stages.Route.TheVariants.{Looking, Trying, Settling}
@@ -129,13 +129,13 @@ over-itself n at units name some = grind (arith, some)
 
 -- a name that a block has lies somewhere
 pub lies-somewhere : (e : Setup) (w : State) (n : ℕ) → 0 < blocks_named e n w
-    → (r : Range) × LiesOver e n r w
+    → (r : Extent) × LiesOver e n r w
 lies-somewhere e w n some =
     let x = content-heavy (of_content (only n)) e w some in
     let number = x.0.number in
     let base = x.0.base in
     let b = item-heavy (of_block (only n) number) x.0.blocks x.1 in
-    let r : Range = record { first = 512 * base + b.0.offset; units = b.0.size } in (
+    let r : Extent = record { first = 512 * base + b.0.offset; units = b.0.size } in (
       r,
       omega (
         arith,

@@ -1,8 +1,9 @@
 -- The heap: which names are live, and which units of the super carrier the block of each has.
 use Rattle.std.specs.Prelude.{◌≡◌, ◌≢◌, ◌⊎◌, ◌↔◌, ℕ, List, [], ◌∷◌, ◌++◌}
+use Rattle.ea_model.specs.declared.carriers.Extent.{Extent}
 use Rattle.ea_model.specs.declared.operations.Op.{Op}
 use Rattle.ea_model.specs.declared.operations.Op.TheVariants as op
-use Rattle.ea_laws.specs.InOrder.{Range, RangesApart}
+use Rattle.ea_laws.specs.InOrder.{ExtentsApart}
 use Rattle.ea_machine.specs.Machine.{run}
 use Rattle.ea_machine.specs.Setup.{Setup}
 use Rattle.ea_machine.specs.State.{State}
@@ -16,7 +17,7 @@ IsLive name state = ((i : ℕ) × IsAmong name (state.actors i).held)
     ⊎ IsAmong name state.shared.given
 
 -- the heap has the name, with these units: the name is live, and its block lies there
-abbrev pub HasUnits : Setup → ℕ → Range → State → Type 0
+abbrev pub HasUnits : Setup → ℕ → Extent → State → Type 0
 HasUnits setup name r state = IsLive name state × LiesOver setup name r state
 
 -- the operation lets the name go, or makes it; a give and a take do neither
@@ -38,19 +39,19 @@ FirstChanges name (o ∷ ops) = Changes name o
 pub record IsHeap (setup : Setup) : Type 0 where
   -- a live name has units, and only these
   pub some : (turns : List ℕ) (name : ℕ) → IsLive name (run setup turns)
-      → (r : Range) × HasUnits setup name r (run setup turns)
-  pub one : (turns : List ℕ) (name : ℕ) (r q : Range) → HasUnits setup name r (run setup turns)
+      → (r : Extent) × HasUnits setup name r (run setup turns)
+  pub one : (turns : List ℕ) (name : ℕ) (r q : Extent) → HasUnits setup name r (run setup turns)
       → HasUnits setup name q (run setup turns) → r ≡ q
   -- those of two names lie apart
-  pub apart : (turns : List ℕ) (n m : ℕ) (r q : Range) → n ≢ m
+  pub apart : (turns : List ℕ) (n m : ℕ) (r q : Extent) → n ≢ m
       → HasUnits setup n r (run setup turns) → HasUnits setup m q (run setup turns)
-      → RangesApart r q
+      → ExtentsApart r q
   -- a step of scheduler s changes nothing but at the names of the operation that s is in
-  pub others : (turns : List ℕ) (s name : ℕ) (r : Range)
+  pub others : (turns : List ℕ) (s name : ℕ) (r : Extent)
       → (FirstChanges name (actor_after setup turns s).todo → ⊥)
       → HasUnits setup name r (run setup turns)
       ↔ HasUnits setup name r (run setup (turns ++ s ∷ []))
   -- a name keeps its units while it is live
-  pub keeps : (turns more : List ℕ) (name : ℕ) (r : Range)
+  pub keeps : (turns more : List ℕ) (name : ℕ) (r : Extent)
       → HasUnits setup name r (run setup turns) → IsLive name (run setup (turns ++ more))
       → HasUnits setup name r (run setup (turns ++ more))

@@ -1,6 +1,6 @@
 //! A memory with blocks.
 use ea_contents::Memory;
-use ea_outcome::Extent;
+use ea_model::Extent;
 use std::test::Fail;
 
 #[test]

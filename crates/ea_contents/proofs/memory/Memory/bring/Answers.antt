@@ -2,7 +2,6 @@ use Rattle.std.proofs.Common.{◌≡◌, ◌+◌, ◌-◌, ℕ, List, length, re
 use Rattle.std.specs.Prelude.{min}
 use Rattle.ea_contents.specs.Agreeing.{source_in}
 use Rattle.ea_contents.specs.Memory.{with_words}
-use Rattle.ea_outcome.specs.Extents.{range_if}
 use Rattle.ea_contents.proofs.Storing.{brought}
 use Rattle.ea_contents.proofs.memory.Memory.bring.Goals as goal
 
@@ -11,7 +10,7 @@ returns-clause-words c =
     let at : ℕ = c.args.block.first + 1 in
     let n : ℕ = c.args.block.units - 1 in
     let k = c.carry-carried.result in
-    let from = range_if c.args.from in
+    let from = c.args.from in
     let now : List ℕ = c.args.self.now.words in
     let held : c.hold.new.self.words ≡ now =
     c.hold.ensures.words ∙ ap (λ p. p.words) c.self.view_is in

@@ -3,7 +3,6 @@ use Rattle.std.specs.Prelude.{None, Some}
 use Rattle.ea_machine.specs.Machine.{run}
 use Rattle.ea_machine.specs.Setup.{setup_of}
 use Rattle.ea_sound.specs.Over.{LiesOver}
-use Rattle.ea_outcome.specs.Extents.{range_of}
 use Rattle.ea_contents.specs.Sessions.{kept}
 use Rattle.ea_contents.proofs.Standing.{held-kept, same-extent}
 use Rattle.ea_contents.proofs.session.Session.block_of.Goals as goal
@@ -20,6 +19,6 @@ pub returns : goal.returns
 returns c = λ d t turns lists at.
     let x = held-kept d t turns lists c.args.self.now at c.args.name
     (c.requires.held d t turns lists at) in
-    subst (λ y. LiesOver (setup_of d t) c.args.name (range_of y) (run (setup_of d t) turns))
+    subst (λ y. LiesOver (setup_of d t) c.args.name y (run (setup_of d t) turns))
     (same-extent x.0 c.in-Some.block (sym x.1 ∙ sym (c.kept.ensures
     ∙ ap (λ l. kept l c.args.name) c.deref.ensures.value) ∙ c.in-Some.is)) x.2

@@ -5,7 +5,6 @@ use Rattle.std.proofs.lemmas.List.{length-set, with_items_is}
 use Rattle.ea_machine.specs.Setup.{setup_of}
 use Rattle.ea_machine.specs.State.{State}
 use Rattle.ea_sound.specs.Over.{LiesOver}
-use Rattle.ea_outcome.specs.Extents.{range_if, range_of}
 use Rattle.ea_contents.specs.Agreeing.{memory_made}
 use Rattle.ea_contents.specs.Sessions.{kept_if}
 use Rattle.ea_contents.specs.Stored.{IsStored}
@@ -90,10 +89,10 @@ returns c = λ d t turns lists at.
     stands-made d t turns lists s at c.args.me v c.in_ok-turn.ensures refl refl m x
     (made-held d t turns lists s at c.args.me c.yet_to_make-making.result m yet c.in-Some.is true
     (sym (ap is_some c.in-Some-extent.is) ∙ c.extent.ensures.held d t later gone))
-    (subst (λ (v : State). LiesOver (setup_of d t) m.fresh (range_of x) v)
+    (subst (λ (v : State). LiesOver (setup_of d t) m.fresh x v)
     (unstopped d t at.stops later) (c.in-Some-extent.ensures.lies d t later gone))
-    (c.in_ok-keep.ensures.memory ∙ ap (λ l. memory_made s.memory.words (Some (range_of x))
-    (range_if (kept_if l m.source))) c.deref_mut.ensures.value)
+    (c.in_ok-keep.ensures.memory ∙ ap (λ l. memory_made s.memory.words (Some x)
+    (kept_if l m.source)) c.deref_mut.ensures.value)
     c.in_ok-keep.ensures.there c.keep.ensures.kept
     (with_items_is s.extents c.keep.new.extents many ∙ placed)
     (yet-upto d t turns lists s at c.args.me c.yet_to_make-making.result m yet c.in-Some.is)
@@ -105,5 +104,5 @@ keep-requires-clause-stored c =
     block-stored d t turns lists c.args.self.now at c.args.me c.in-Some.making.fresh
     c.in-Some-extent.block
     (subst (λ (v : State). LiesOver (setup_of d t) c.in-Some.making.fresh
-    (range_of c.in-Some-extent.block) v) (unstopped d t at.stops later)
+    c.in-Some-extent.block v) (unstopped d t at.stops later)
     (c.in-Some-extent.ensures.lies d t later (c.in_ok-turn.ensures d t turns at.run)))

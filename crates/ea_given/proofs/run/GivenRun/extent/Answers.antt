@@ -2,7 +2,7 @@ use Rattle.std.proofs.Common.{subst, sym}
 use Rattle.ea_machine.specs.Setup.{setup_of}
 use Rattle.ea_machine.specs.Stops.{cut}
 use Rattle.ea_mem_shared.specs.Places.{place_at}
-use Rattle.ea_outcome.specs.Extents.{HasSpot, LiesWhere, range_of}
+use Rattle.ea_outcome.specs.Extents.{HasSpot, LiesWhere}
 use Rattle.ea_outcome.specs.Resting.{StandIn}
 use Rattle.ea_given.proofs.GivenRuns.{run-stands}
 use Rattle.ea_given.proofs.NamesHeld.{fits-told, has-spot, lies-told}
@@ -32,7 +32,7 @@ pub returns-clause-lies : goal.returns-clause-lies
 returns-clause-lies c =
     let r = c.args.self.now in
     let p = c.in_ok-spot.spot in
-    let q = range_of c.extent_of.result in
+    let q = c.extent_of.result in
     lies-told r c.args.me c.requires.scheduler c.args.name p q
     (has-spot r c.args.me c.requires.scheduler c.args.name c.spot_of.result c.spot_of.ensures
     c.requires.stands p c.in_ok-spot.was)
@@ -41,4 +41,4 @@ returns-clause-lies c =
 
 pub returns-clause-fits : goal.returns-clause-fits
 returns-clause-fits c = fits-told c.args.self.now c.args.me c.requires.scheduler c.args.name
-    (range_of c.extent_of.result) (returns-clause-lies c)
+    c.extent_of.result (returns-clause-lies c)

@@ -17,8 +17,8 @@ use Rattle.ea_instance.proofs.instance.Instance.resize_multi.Goals.{After-decide
 abbrev at : ℕ → ℕ → Spot
 at number offset = record { carrier = number; offset = offset }
 
-pub extent-block-requires : goal.extent-block-requires
-extent-block-requires c =
+pub block_and_gap-block-requires : goal.block_and_gap-block-requires
+block_and_gap-block-requires c =
     begins-multi _ _ _ _ _ _ c.self.invariant (at c.args.found.carrier.key.number c.args.offset)
     c.args.need _ c.self.view_is c.requires.block c.at.result.now c.at.ensures
 
@@ -27,7 +27,8 @@ decided : (c : After-decide) → c.decide.result ≡ decision_at c.args.self.now
 decided c =
     c.decide.ensures ∙ decided-multi _ _ _ _ _ _ c.self.invariant
     (at c.args.found.carrier.key.number c.args.offset) c.args.need _ c.self.view_is c.requires.block
-    c.at.result.now c.at.ensures _ _ c.extent-block.ensures.size c.extent-block.ensures.after
+    c.at.result.now c.at.ensures _ _ c.block_and_gap-block.ensures.size
+    c.block_and_gap-block.ensures.after
 
 needs : (c : After-decide) → IsCalled c.self.inside.carriers
     (at c.args.found.carrier.key.number c.args.offset) c.args.need c.decide.result

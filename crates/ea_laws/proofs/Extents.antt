@@ -5,10 +5,11 @@ use Rattle.std.proofs.lemmas.List.Elements.{All-nil, All-cons, All-head, All-tai
 use Rattle.std.proofs.lemmas.List.Elements.{All-map, All-weaker}
 use Rattle.std.proofs.lemmas.List.Kept.{AllPairs-cons}
 use Rattle.ea_model.specs.declared.carriers.BlockAt.{BlockAt}
+use Rattle.ea_model.specs.declared.carriers.Extent.{Extent}
 use Rattle.ea_model.specs.Content.{Content}
 use Rattle.ea_model.proofs.Pairs.{pairs_append, pairs_head, pairs_map, pairs_nil, pairs_tail}
 use Rattle.ea_laws.proofs.Tiling.{Ordered, Ordered-allocated}
-use Rattle.ea_laws.specs.InOrder.{Range, ranges_in, ranges, RangesApart}
+use Rattle.ea_laws.specs.InOrder.{ExtentsApart, extents, extents_in}
 use Rattle.ea_laws.specs.Kept.{ContentsApart}
 
 -- the blocks of a carrier lie one after another, behind its header
@@ -39,48 +40,49 @@ blocks_ahead at end (b ∷ bs) t =
     (blocks_within (b.offset + b.size) end bs t.2))
     (blocks_ahead (b.offset + b.size) end bs t.2)
 
-abbrev range_of : Content → BlockAt → Range
-range_of c b = record { first = 512 * c.base + b.offset; units = b.size }
+abbrev extent_of : Content → BlockAt → Extent
+extent_of c b = record { first = 512 * c.base + b.offset; units = b.size }
 
-in_carrier : (c : Content) → IsOrdered c → AllPairs RangesApart (ranges_in c)
-in_carrier c sound = pairs_map RangesApart (range_of c) c.blocks
+in_carrier : (c : Content) → IsOrdered c → AllPairs ExtentsApart (extents_in c)
+in_carrier c sound = pairs_map ExtentsApart (extent_of c) c.blocks
     (λ i j d lt within. inl
     (omega (arith, blocks_ahead 8 c.units c.blocks sound i j d lt within)))
 
 -- what holds of each block's units
-ranges_All : (P : Range → Type 0) (cs : List Content)
-    → All (λ c. All (λ b. P (range_of c b)) c.blocks) cs → All P (ranges cs)
-ranges_All P [] a = All-nil P
-ranges_All P (c ∷ cs) a =
-    let each : Content → Type 0 = λ d. All (λ b. P (range_of d b)) d.blocks in
-    All-append P (ranges_in c) (ranges cs) (All-map P (range_of c) c.blocks (All-head each c cs a))
-    (ranges_All P cs (All-tail each c cs a))
+extents_All : (P : Extent → Type 0) (cs : List Content)
+    → All (λ c. All (λ b. P (extent_of c b)) c.blocks) cs → All P (extents cs)
+extents_All P [] a = All-nil P
+extents_All P (c ∷ cs) a =
+    let each : Content → Type 0 = λ d. All (λ b. P (extent_of d b)) d.blocks in
+    All-append P (extents_in c) (extents cs)
+    (All-map P (extent_of c) c.blocks (All-head each c cs a))
+    (extents_All P cs (All-tail each c cs a))
 
 across : (c d : Content) (b e : BlockAt) → ContentsApart c d → IsWithin 8 c.units b
-    → IsWithin 8 d.units e → RangesApart (range_of c b) (range_of d e)
+    → IsWithin 8 d.units e → ExtentsApart (extent_of c b) (extent_of d e)
 across c d b e away h k =
     elim away [ inl p ↦ inl (omega (arith, h.1)) | inr q ↦ inr (omega (arith, k.1)) ]
 
 -- a block of a carrier, and those of a carrier that lies apart
 across_All : (c d : Content) (b : BlockAt) → IsWithin 8 c.units b → ContentsApart c d → IsOrdered d
-    → All (λ e. RangesApart (range_of c b) (range_of d e)) d.blocks
+    → All (λ e. ExtentsApart (extent_of c b) (extent_of d e)) d.blocks
 across_All c d b h away sound =
-    All-weaker (IsWithin 8 d.units) (λ e. RangesApart (range_of c b) (range_of d e))
+    All-weaker (IsWithin 8 d.units) (λ e. ExtentsApart (extent_of c b) (extent_of d e))
     (λ e k. across c d b e away h k) d.blocks (blocks_within 8 d.units d.blocks sound)
 
 pub blocks-disjoint : (cs : List Content) → All IsOrdered cs → AllPairs ContentsApart cs
-    → AllPairs RangesApart (ranges cs)
-blocks-disjoint [] sound apart = pairs_nil RangesApart
+    → AllPairs ExtentsApart (extents cs)
+blocks-disjoint [] sound apart = pairs_nil ExtentsApart
 blocks-disjoint (c ∷ cs) sound apart =
     let here = All-head IsOrdered c cs sound in
     let rest = All-tail IsOrdered c cs sound in
     let away = pairs_head ContentsApart c cs apart in
     let others : (b : BlockAt) → IsWithin 8 c.units b
-    → All (RangesApart (range_of c b)) (ranges cs) =
-    λ b h. ranges_All (RangesApart (range_of c b)) cs
+    → All (ExtentsApart (extent_of c b)) (extents cs) =
+    λ b h. extents_All (ExtentsApart (extent_of c b)) cs
     (λ i d within. across_All c (get_or cs i d) b h (away i d within) (rest i d within)) in
-    pairs_append RangesApart (ranges_in c) (ranges cs) (in_carrier c here)
+    pairs_append ExtentsApart (extents_in c) (extents cs) (in_carrier c here)
     (blocks-disjoint cs rest (pairs_tail ContentsApart c cs apart))
-    (All-map (λ r. All (RangesApart r) (ranges cs)) (range_of c) c.blocks
-    (All-weaker (IsWithin 8 c.units) (λ b. All (RangesApart (range_of c b)) (ranges cs)) others
+    (All-map (λ r. All (ExtentsApart r) (extents cs)) (extent_of c) c.blocks
+    (All-weaker (IsWithin 8 c.units) (λ b. All (ExtentsApart (extent_of c b)) (extents cs)) others
     c.blocks (blocks_within 8 c.units c.blocks here)))
