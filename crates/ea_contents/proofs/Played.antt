@@ -1,5 +1,5 @@
 -- A play has gone on by turns of all kinds.
-use Rattle.std.proofs.Common.{◌≡◌, ◌≢◌, ℕ, zero, suc, ◌+◌, ◌-◌, ◌<◌, ◌≤◌, List, [], ◌∷◌}
+use Rattle.std.proofs.Common.{◌≡◌, ℕ, zero, suc, ◌+◌, ◌-◌, ◌<◌, ◌≤◌, List, [], ◌∷◌}
 use Rattle.std.proofs.Common.{◌++◌, Bool, true, false, refl, sym, ap, ◌∙◌, subst, arith, length}
 use Rattle.std.proofs.Common.{get_or}
 use Rattle.std.specs.Prelude.{◌&&◌, All, Option, None, Some, is_none, is_some, map}
@@ -11,17 +11,14 @@ use Rattle.ea_model.specs.declared.outcome.Outcome.{Outcome}
 use Rattle.ea_model.specs.declared.settings.Config.{Config}
 use Rattle.ea_model.specs.declared.trace.Trace.{Trace}
 use Rattle.ea_model.specs.declared.trace.Turns.{Turns}
-use Rattle.ea_model.specs.Content.{Content}
 use Rattle.ea_model.specs.Lists.{Items}
-use Rattle.ea_machine.specs.declared.stages.Stage.{Stage}
-use Rattle.ea_machine.specs.declared.stages.Stage.TheVariants.{Ended}
 use Rattle.ea_machine.specs.Machine.{run}
 use Rattle.ea_machine.specs.Outcome.{outcome}
 use Rattle.ea_machine.specs.Setup.{Setup, setup_of}
 use Rattle.ea_machine.specs.State.{State}
-use Rattle.ea_sched.specs.Acting.{is_ended}
-use Rattle.ea_given.proofs.Ends.{turns-more, turns_from}
-use Rattle.ea_given.proofs.Running.{ended-is}
+use Rattle.ea_sound.specs.Turns.{is_ended}
+use Rattle.ea_sound.proofs.Schedules.{turns-more, turns_from}
+use Rattle.ea_sound.proofs.TurnLists.{ended-is, not-ended}
 use Rattle.ea_contents.specs.declared.access.Access.{Access}
 use Rattle.ea_contents.specs.declared.access.AccessEntry.{AccessEntry}
 use Rattle.ea_contents.specs.declared.input.Placed.{Placed}
@@ -171,9 +168,6 @@ pub schedule-all : (p q : Play) (schedule : List Turns) (i : ℕ) → length sch
     → Taken (turns_from (take i schedule)) p q → Taken (turns_from schedule) p q
 schedule-all p q schedule i all =
     subst (λ xs. Taken (turns_from xs) p q) (take_all i schedule all)
-
-not-ended : (stage : Stage Content) → is_ended stage ≡ false → stage ≢ Ended
-not-ended stage is = λ q. let no : true ≡ false = sym (ap is_ended q) ∙ is in cc
 
 -- turns of a scheduler to its end: of those from where p stood, q has taken the first ones
 abbrev pub IsEnding : ℕ → Play → Play → Type 0

@@ -22,13 +22,12 @@ use Rattle.ea_machine.specs.Setup.{Setup, setup_of}
 use Rattle.ea_machine.specs.Shared.{put}
 use Rattle.ea_machine.specs.State.{State}
 use Rattle.ea_machine.specs.Stops.{count_of, less, run_with_stops, stop_at, stop_of}
+use Rattle.ea_sound.specs.Turns.{is_ended}
 use Rattle.ea_sound.proofs.Totals.{put-here, put-other}
-use Rattle.ea_sound.proofs.TurnLists.{run-snoc, step-other}
-use Rattle.ea_sched.specs.Acting.{is_ended}
+use Rattle.ea_sound.proofs.TurnLists.{ended-is, run-snoc, step-other}
 use Rattle.ea_given.specs.Runs.{left_in}
 use Rattle.ea_sound.proofs.Stopping.{cut-none}
 use Rattle.ea_given.proofs.GivenRuns.{left-work}
-use Rattle.ea_given.proofs.Running.{ended-is}
 use Rattle.ea_contents.specs.declared.access.Access.{Access}
 use Rattle.ea_contents.specs.declared.access.AccessEntry.{AccessEntry}
 use Rattle.ea_contents.specs.declared.input.Placed.{Placed}

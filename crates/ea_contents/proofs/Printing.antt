@@ -14,8 +14,8 @@ use Rattle.ea_model.specs.Outcome.{logs_of, plain_outcome}
 use Rattle.ea_model.specs.Trace.{IsValidTrace, listed, plain, plain_mode}
 use Rattle.ea_machine.specs.Completion.{turns_in}
 use Rattle.ea_machine.specs.Setup.{setup_of}
+use Rattle.ea_sound.proofs.Plain.{same-setup, valid-plain}
 use Rattle.ea_report.specs.Text.{line, outcome_text}
-use Rattle.ea_given.proofs.Plain.{same-setup, valid-plain}
 use Rattle.ea_contents.specs.Command.{IsContentsText}
 use Rattle.ea_contents.specs.Model.{Script, complete, play}
 use Rattle.ea_contents.specs.Playing.{outcome_played, shown_played}

@@ -24,7 +24,7 @@ use Rattle.ea_sound.proofs.Protocols.{protocol, rule-run}
 use Rattle.ea_sound.proofs.StartKept.{all-none}
 use Rattle.ea_given.specs.Runs.{StandsAfter, done_after, holds_after}
 use Rattle.ea_sound.proofs.Stopping.{cut-none}
-use Rattle.ea_sched.proofs.Texts.{text-is}
+use Rattle.ea_sound.proofs.Texts.{text-is}
 use Rattle.ea_contents.specs.Agreeing.{Agree, IsWhole}
 use Rattle.ea_contents.specs.declared.access.Making.{Making}
 use Rattle.ea_contents.specs.declared.session.Session.{Session}

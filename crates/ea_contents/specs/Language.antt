@@ -6,6 +6,7 @@ use Rattle.std.specs.Prelude.{Option, Some, None, Result, Ok, Err}
 use Rattle.std.specs.Prelude.{bytes_eq, codes, is_some, length, map, option_and_then}
 use Rattle.ea_model.specs.declared.settings.Config.{Config}
 use Rattle.ea_model.specs.declared.trace.Trace.{Trace}
+use Rattle.ea_model.specs.Trace.{is_scheduled}
 use Rattle.ea_model.specs.Words.{number}
 use Rattle.ea_trace.specs.Between.{in_section}
 use Rattle.ea_trace.specs.Language.{Answer, Earlier, LineWords, WordLines, is_held, lines_of}
@@ -13,7 +14,6 @@ use Rattle.ea_trace.specs.Language.{no_stops, section_operations, sections, trac
 use Rattle.ea_trace.specs.Lines.{both_words, line_of_words, name_in, pair, three_words, triple}
 use Rattle.ea_trace.specs.declared.fault.TraceFault.{TraceFault}
 use Rattle.ea_trace.specs.declared.fault.TraceFault.TheVariants as fault
-use Rattle.ea_given.specs.Layouts.{is_scheduled}
 use Rattle.ea_contents.specs.declared.access.Access.{Access}
 use Rattle.ea_contents.specs.declared.access.Access.TheVariants.{Read, Write}
 use Rattle.ea_contents.specs.Model.{Script}

@@ -3,10 +3,10 @@ ghost use Rattle.std.specs.Prelude.{◌≡◌, ◌&&◌, IfErr, IfOk, OnOk, leng
 ghost use Rattle.ea_frame.specs.Language.{HasText};
 ghost use Rattle.ea_frame.specs.Whys.{IsTextFault};
 ghost use Rattle.ea_model.specs.Settings.{IsValidConfig};
+ghost use Rattle.ea_model.specs.Trace.{is_scheduled};
 ghost use Rattle.ea_model.specs.declared.units.TheConstants.{MAX_INPUT};
 ghost use Rattle.ea_trace.specs.Language.{no_stops};
 ghost use Rattle.ea_contents.specs.Command.{contents_traces};
-ghost use Rattle.ea_given.specs.Layouts.{is_scheduled};
 
 use crate::playing::run_script;
 use crate::reader::read_contents;

@@ -4,11 +4,10 @@ ghost use Rattle.std.specs.Prelude.{drop, flat_map, is_none, length, map, replic
 ghost use Rattle.std.specs.List.{range_with_len};
 ghost use Rattle.ea_model.specs.Outcome.{plain_outcome};
 ghost use Rattle.ea_model.specs.Settings.{IsValidConfig};
-ghost use Rattle.ea_model.specs.Trace.{IsValidTrace};
+ghost use Rattle.ea_model.specs.Trace.{IsValidTrace, is_scheduled};
 ghost use Rattle.ea_machine.specs.Completion.{turns_in};
 ghost use Rattle.ea_machine.specs.Setup.{setup_of};
-ghost use Rattle.ea_sched.specs.Acting.{is_ended};
-ghost use Rattle.ea_given.specs.Layouts.{is_scheduled};
+ghost use Rattle.ea_sound.specs.Turns.{is_ended};
 ghost use Rattle.ea_contents.specs.declared.access.Access.TheVariants.{Read, Write};
 ghost use Rattle.ea_contents.specs.Model.{opening, waiting};
 ghost use Rattle.ea_contents.specs.Placing.{first_of, next_at};
@@ -21,7 +20,6 @@ ghost use Rattle.ea_contents.specs.Sessions.{IsSession, SessionHas};
 use crate::access::{Access, AccessEntry};
 use crate::input::{ContentsInput, Placed};
 use crate::session::Session;
-use ea_given::turns_of;
 use ea_model::{Config, List, OutOfMemory, Outcome, Turns};
 use std::alloc::Global;
 
@@ -281,7 +279,7 @@ pub fn run_script(
         (turns_in input.now.trace.mode)) }
 {
     let mut play = Play::new(alloc, config, input)?;
-    play.take_all(alloc, turns_of(&input.trace.mode))?;
+    play.take_all(alloc, input.trace.mode.turns_of())?;
     play.complete(alloc, config.schedulers)?;
     play.outcome(alloc)
 }

@@ -10,16 +10,15 @@ ghost use Rattle.ea_contents.specs.Sessions.{SessionHas, SessionTells, StandsWit
 ghost use Rattle.ea_contents.specs.Sessions.{IsHeld, kept_if, yet_made_by};
 ghost use Rattle.ea_contents.specs.Sessions as sessions;
 ghost use Rattle.ea_contents.specs.Stored.{IsStored};
-ghost use Rattle.ea_given.specs.Layouts.{is_scheduled};
 ghost use Rattle.ea_machine.specs.Machine.{run};
 ghost use Rattle.ea_machine.specs.Outcome as machine;
 ghost use Rattle.ea_machine.specs.Setup.{setup_of};
 ghost use Rattle.ea_model.specs.Outcome.{plain_outcome};
 ghost use Rattle.ea_model.specs.Settings.{IsValidConfig, region_pages};
-ghost use Rattle.ea_model.specs.Trace.{IsValidTrace};
+ghost use Rattle.ea_model.specs.Trace.{IsValidTrace, is_scheduled};
 ghost use Rattle.ea_model.specs.declared.units.TheConstants.{PAGE_UNITS};
-ghost use Rattle.ea_sched.specs.Acting.{is_ended};
 ghost use Rattle.ea_sound.specs.Over.{LiesOver, units_named};
+ghost use Rattle.ea_sound.specs.Turns.{is_ended};
 
 use crate::access::Making;
 use crate::memory::Memory;

@@ -1,20 +1,17 @@
 -- The run of all schedulers, from its start to its end.
 use Rattle.std.proofs.Common.{◌≡◌, ◌≢◌, ℕ, zero, suc, ◌+◌, ◌-◌, ◌<◌, ◌≤◌, List, [], ◌∷◌, ◌++◌}
 use Rattle.std.proofs.Common.{length, length-set, get_or, get_or-set_other, get_or-set_same}
-use Rattle.std.proofs.Common.{set, take, append-nil, inl, inr, refl, sym, ap, subst, ◌∙◌, arith}
-use Rattle.std.specs.Prelude.{All, Option, Some, false, flat_map, map, replicate}
+use Rattle.std.proofs.Common.{set, take, inl, inr, refl, sym, ap, subst, ◌∙◌, arith}
+use Rattle.std.specs.Prelude.{Option, Some, false, map, replicate}
 use Rattle.std.specs.List.{range_with_len}
 use Rattle.std.proofs.lemmas.Bool.{cases_Bool, cases_eq, cases_lt}
 use Rattle.std.proofs.lemmas.List.{get_or_append_left, get_or-append_right}
-use Rattle.std.proofs.lemmas.List.{length_push, take-append-le, take_all, take_more}
-use Rattle.std.proofs.lemmas.Grind.{flat_map-append}
+use Rattle.std.proofs.lemmas.List.{length_push, take-append-le, take_all}
 use Rattle.ea_model.specs.declared.settings.Config.{Config}
 use Rattle.ea_model.specs.declared.trace.Trace.{Trace}
 use Rattle.ea_model.specs.declared.trace.Turns.{Turns}
 use Rattle.ea_model.specs.Settings.{IsValidConfig}
-use Rattle.ea_model.specs.declared.trace.Mode.{Mode}
-use Rattle.ea_model.specs.declared.trace.Mode.TheVariants.{Threads, Schedule, Generated}
-use Rattle.ea_model.specs.Trace.{IsScheduler, IsValidMode, IsValidTrace, stop_in, turns_of}
+use Rattle.ea_model.specs.Trace.{IsValidTrace, stop_in}
 use Rattle.ea_machine.specs.Actor.{Actor}
 use Rattle.ea_machine.specs.Completion.{completing, finishing, work}
 use Rattle.ea_machine.specs.Machine.{first_actor, run, run_on, start}
@@ -23,20 +20,21 @@ use Rattle.ea_machine.specs.State.{State}
 use Rattle.ea_machine.specs.Shared.{put}
 use Rattle.ea_machine.specs.Stops.{cut, left_after, left_by, less, run_with_stops, stop_at}
 use Rattle.ea_machine.specs.Stops.{stop_of, up_to}
+use Rattle.ea_sound.specs.Turns.{is_ended}
 use Rattle.ea_sound.proofs.Completing.{ending-own, replicate-others}
+use Rattle.ea_sound.proofs.Schedules.{turns-more, turns_from}
 use Rattle.ea_sound.proofs.Stopping.{count-others, count-replicate, cut-append}
 use Rattle.ea_sound.proofs.Stopping.{cut-left, cut-replicate, left-more, less-none, stop-same}
 use Rattle.ea_sound.proofs.Stopping.{up_to-some}
 use Rattle.ea_sound.proofs.Totals.{put-here, put-other}
-use Rattle.ea_sound.proofs.TurnLists.{run-append}
+use Rattle.ea_sound.proofs.TurnLists.{ended-is, run-append}
 use Rattle.ea_mem_shared.specs.Memory.{Sharing, shared_of}
 use Rattle.ea_mem_shared.specs.Places.{place_at}
 use Rattle.ea_sched.specs.declared.state.Scheduler.{Scheduler}
-use Rattle.ea_sched.specs.Acting.{actor_of, is_ended, setup_for, stop_line}
+use Rattle.ea_sched.specs.Acting.{actor_of, setup_for, stop_line}
 use Rattle.ea_outcome.specs.Resting.{StandIn}
 use Rattle.ea_given.specs.Running.{AllStand, AllStandAt, AllTook, CompletesTo, IsAfter}
 use Rattle.ea_given.specs.Running.{SharesAt, Stands, StandsAt, Took}
-use Rattle.ea_given.proofs.Running.{ended-is}
 
 -- turns of one scheduler leave the others as they are
 up_to-others : (e : Setup) (me n j : ℕ) (steps : Option ℕ) (w : State) → j ≢ me
@@ -82,21 +80,6 @@ module _ (c : Config) (t : Trace) (steps : ℕ → Option ℕ) (ss : List Schedu
               })
         ];
   }
-
-abbrev pub turns_from : List Turns → List ℕ
-turns_from schedule = flat_map (λ t. replicate t.count t.scheduler) schedule
-
--- one entry more of a schedule
-pub turns-more : (schedule : List Turns) (i : ℕ) (d : Turns) → i < length schedule
-    → turns_from (take (i + 1) schedule)
-    ≡ turns_from (take i schedule)
-    ++ replicate (get_or schedule i d).count (get_or schedule i d).scheduler
-turns-more schedule i d within =
-    let x = get_or schedule i d in
-    let f : Turns → List ℕ = λ t. replicate t.count t.scheduler in
-    ap turns_from (take_more schedule i d within)
-    ∙ flat_map-append f (take i schedule) (x ∷ [])
-    ∙ ap (λ ys. turns_from (take i schedule) ++ ys) (append-nil (f x))
 
 -- with other steps left
 module _ (c : Config) (t : Trace) (steps : ℕ → Option ℕ) (ss : List Scheduler) (w : State)
@@ -389,14 +372,3 @@ module _ (c : Config) (t : Trace) where
 pub written : {A : Type 0} (n : ℕ) (xs ys : List A) → length xs ≡ n → take n (xs ++ ys) ≡ xs
 written n xs ys many =
     take-append-le n xs ys (omega (arith, many)) ∙ take_all n xs (omega (arith, many))
-
-theirs_by : (n : ℕ) (m : Mode) → IsValidMode n m
-    → All (λ y. IsScheduler n y.scheduler) (turns_of m)
-theirs_by n Threads valid = λ k d h. absurd (omega (arith, h))
-theirs_by n (Schedule turns) valid = λ k d h. (valid.0 k d h).0
-theirs_by n (Generated seed count) valid = λ k d h. absurd (omega (arith, h))
-
--- the turns of a valid trace are those of its schedulers
-pub turns-theirs : (c : Config) (t : Trace) → IsValidTrace c.schedulers t
-    → All (λ y. IsScheduler c.schedulers y.scheduler) (turns_of t.mode)
-turns-theirs c t valid = theirs_by c.schedulers t.mode valid.mode

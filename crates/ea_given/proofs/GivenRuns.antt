@@ -1,18 +1,13 @@
 -- A run takes turns, goes on to its end, and is asked in between.
 use Rattle.std.proofs.Common.{◌≡◌, ℕ, zero, suc, ◌+◌, ◌-◌, ◌<◌, List, [], ◌∷◌, ◌++◌, length}
 use Rattle.std.proofs.Common.{get_or, sym, ap, subst, ◌∙◌, ◌⊎◌, inl, inr, arith, set}
-use Rattle.std.proofs.Common.{get_or-set_same, true}
+use Rattle.std.proofs.Common.{get_or-set_same}
 use Rattle.std.specs.Prelude.{IfOk, Option, Some, replicate, slice_get}
 use Rattle.std.specs.Prelude.{Result, Ok, Err}
 use mathlib.Core.Path.{fun_ext}
-use Rattle.std.proofs.lemmas.List.{length-map}
-use Rattle.ea_model.specs.declared.operations.Op.{Op}
 use Rattle.ea_model.specs.declared.settings.Config.{Config}
-use Rattle.ea_model.specs.declared.trace.Mode.{Mode}
-use Rattle.ea_model.specs.declared.trace.Mode.TheVariants.{Threads, Schedule, Generated}
 use Rattle.ea_model.specs.declared.trace.Trace.{Trace}
-use Rattle.ea_model.specs.Lists.{Items}
-use Rattle.ea_model.specs.Trace.{HasTexts, IsScheduler, IsValidTrace, texts_of}
+use Rattle.ea_model.specs.Trace.{IsScheduler}
 use Rattle.ea_machine.specs.declared.stages.Stage.TheVariants.{Ended}
 use Rattle.ea_machine.specs.Actor.{Actor}
 use Rattle.ea_machine.specs.Completion.{complete, completing, completion, work}
@@ -20,16 +15,16 @@ use Rattle.ea_machine.specs.Machine.{run, run_on, start}
 use Rattle.ea_machine.specs.Setup.{setup_of}
 use Rattle.ea_machine.specs.State.{State}
 use Rattle.ea_machine.specs.Stops.{cut, left_after, left_by, run_with_stops}
+use Rattle.ea_sound.specs.Turns.{is_ended}
 use Rattle.ea_sound.proofs.Protocols.{always-protocol}
 use Rattle.ea_sound.proofs.Stopping.{cut-append, cut-left, left-more, less-none}
 use Rattle.ea_sound.proofs.TurnLists.{run-append}
 use Rattle.ea_mem_shared.specs.Places.{place_at}
 use Rattle.ea_sched.specs.declared.state.Scheduler.{Scheduler}
-use Rattle.ea_sched.specs.Acting.{actor_of, is_ended}
+use Rattle.ea_sched.specs.Acting.{actor_of}
 use Rattle.ea_sched.specs.Looks.{IsQuiet}
 use Rattle.ea_outcome.specs.Resting.{StandIn}
 use Rattle.ea_given.specs.declared.run.GivenRun.{GivenRun}
-use Rattle.ea_given.specs.Layouts.{is_scheduled}
 use Rattle.ea_given.specs.Running.{AllRanOut, AllStandAt, AllTook, SharesAt, StandsAt, Took}
 use Rattle.ea_given.specs.Running.{left_to}
 use Rattle.ea_given.specs.Runs.{HasCompleted, HasScheduler, HasTaken, IsRun, StandsAfter}
@@ -211,14 +206,3 @@ left-work c t turns r at me has =
     sym (work-is c t me (left_after e turns me) mate (run_with_stops e turns)
     (subst (λ i. StandsAt c t i (left_after e turns i) mate (run_with_stops e turns)) place
     (at.schedulers.each (me - 1) d below)) r.shared at.shared))
-
--- each scheduler has a text where the trace has a schedule
-pub scheduled-texts : (n : ℕ) (t : Trace) → is_scheduled t.mode ≡ true → IsValidTrace n t
-    → length t.texts.items ≡ n
-scheduled-texts n t is valid = sym (length-map t.texts.items (λ (x : Items Op). x.items))
-    ∙ by t.mode is valid.texts where
-      by : (m : Mode) → is_scheduled m ≡ true → HasTexts n m (texts_of t)
-          → length (texts_of t) ≡ n
-      by Threads q has = has
-      by (Schedule turns) q has = has
-      by (Generated seed count) q has = absurd cc

@@ -7,13 +7,9 @@ use Rattle.std.proofs.lemmas.Int.{clamps}
 use Rattle.std.proofs.lemmas.List.{replicate-append-replicate}
 use Rattle.ea_model.specs.declared.settings.Config.{Config}
 use Rattle.ea_model.specs.declared.trace.Trace.{Trace}
-use Rattle.ea_model.specs.Content.{Content}
 use Rattle.ea_model.specs.Settings.{IsValidConfig}
 use Rattle.ea_model.specs.Trace.{IsValidTrace}
-use Rattle.ea_machine.specs.declared.stages.Stage.{Stage}
-use Rattle.ea_machine.specs.declared.stages.Stage.TheVariants.{Begin, Routed, Collecting}
-use Rattle.ea_machine.specs.declared.stages.Stage.TheVariants.{Searching, Fetching, Creating}
-use Rattle.ea_machine.specs.declared.stages.Stage.TheVariants.{Giving, Taking, Ended, Ready}
+use Rattle.ea_machine.specs.declared.stages.Stage.TheVariants.{Ended}
 use Rattle.ea_machine.specs.Actor.{Actor}
 use Rattle.ea_machine.specs.Completion.{actor_rows, ending, finishing, work}
 use Rattle.ea_machine.specs.Machine.{IsReached, after_row, onward}
@@ -23,34 +19,23 @@ use Rattle.ea_machine.specs.Shared.{Shared}
 use Rattle.ea_machine.specs.State.{State}
 use Rattle.ea_machine.specs.Statistics.{observed}
 use Rattle.ea_machine.specs.Table.{answer, effect}
+use Rattle.ea_sound.specs.Turns.{is_ended}
 use Rattle.ea_sound.proofs.Asked.{reached-rule}
 use Rattle.ea_machine.specs.Stops.{less, up_to}
 use Rattle.ea_sound.proofs.Completing.{ending-none, ending-one, reached-run, reached-step}
 use Rattle.ea_sound.proofs.Completing.{rule-less}
 use Rattle.ea_sound.proofs.Stopping.{less-more, less-none, less-over, up_to-all, up_to-more}
 use Rattle.ea_sound.proofs.Stopping.{up_to-nothing, up_to-one, up_to-over, up_to-some, up_to-step}
-use Rattle.ea_sound.proofs.TurnLists.{ended-or, run-append, step-ended, step-mine, step-shared}
+use Rattle.ea_sound.proofs.TurnLists.{ended-is, ended-or, run-append, step-ended, step-mine}
+use Rattle.ea_sound.proofs.TurnLists.{step-shared}
 use Rattle.ea_mem_shared.specs.Memory.{Sharing, shared_of, told_of}
 use Rattle.ea_sched.specs.declared.state.Scheduler.{Scheduler}
-use Rattle.ea_sched.specs.Acting.{actor_of, is_ended, is_over, rests, setup_for}
+use Rattle.ea_sched.specs.Acting.{actor_of, is_over, rests, setup_for}
 use Rattle.ea_sched.specs.Looks.{AreLeft}
 use Rattle.ea_given.specs.Running.{LeadsTo, SharesAt, Stands, StandsAt, Took, alone_in}
 use Rattle.ea_given.specs.Running.{work_left}
 use Rattle.ea_sched.specs.Steps.{Stepped}
 use Rattle.ea_sched.specs.Steps as taking
-
--- a scheduler whose text is done has ended
-pub ended-is : (stage : Stage Content) → is_ended stage ≡ true → stage ≡ Ended
-ended-is Begin is = absurd cc
-ended-is (Routed route why gone) is = absurd cc
-ended-is (Collecting number) is = absurd cc
-ended-is (Searching ask at looked) is = absurd cc
-ended-is (Fetching ask at looked seen) is = absurd cc
-ended-is (Creating ask p) is = absurd cc
-ended-is (Giving given to) is = absurd cc
-ended-is (Taking name tries left) is = absurd cc
-ended-is Ended is = refl
-ended-is Ready is = absurd cc
 
 -- no step is left until its stop, or some are
 pub over-is : (o : Option ℕ) → is_over o ≡ true → o ≡ Some 0

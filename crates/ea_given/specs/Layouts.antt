@@ -1,19 +1,11 @@
 -- The layouts of all carriers once a schedule is completed.
-use Rattle.std.specs.Prelude.{Bool, true, false, List}
+use Rattle.std.specs.Prelude.{List}
 use Rattle.ea_model.specs.declared.settings.Config.{Config}
-use Rattle.ea_model.specs.declared.trace.Mode.{Mode}
-use Rattle.ea_model.specs.declared.trace.Mode.TheVariants.{Threads, Schedule, Generated}
 use Rattle.ea_model.specs.declared.trace.Trace.{Trace}
 use Rattle.ea_machine.specs.Completion.{end_of}
 use Rattle.ea_machine.specs.Setup.{setup_of}
 use Rattle.ea_instance.specs.declared.layouts.Layout.{Layout}
 use Rattle.ea_outcome.specs.Layouts.{layouts_in}
-
--- whether a trace of this mode has a schedule of its own
-abbrev pub is_scheduled : Mode → Bool
-is_scheduled Threads = false
-is_scheduled (Schedule turns) = true
-is_scheduled (Generated seed count) = false
 
 -- those of the state in which its run ends
 abbrev pub layouts_of_run : Config → Trace → List Layout

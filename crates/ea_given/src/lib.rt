@@ -2,9 +2,7 @@
 //! or to the end.
 #![tactic(auto)]
 
-mod modes;
 mod run;
 mod turns;
 
-pub use modes::{is_scheduled, turns_of};
 pub use run::{GivenRun, run_given, run_layouts};

@@ -3,7 +3,7 @@ ghost use Rattle.std.specs.Prelude.{◌≡◌, ◌+◌, ◌<◌, ◌≤◌, true
 ghost use Rattle.std.specs.Prelude.{◌-◌, flat_map, get_or, is_some, length, map, replicate};
 ghost use Rattle.ea_model.specs.Outcome.{plain_outcome};
 ghost use Rattle.ea_model.specs.Settings.{IsValidConfig};
-ghost use Rattle.ea_model.specs.Trace.{IsScheduler, IsValidTrace};
+ghost use Rattle.ea_model.specs.Trace.{IsScheduler, IsValidTrace, is_scheduled};
 ghost use Rattle.ea_machine.specs.Completion.{course_of};
 ghost use Rattle.ea_machine.specs.Machine.{start};
 ghost use Rattle.ea_machine.specs.Stops.{cut, run_with_stops};
@@ -13,13 +13,12 @@ ghost use Rattle.ea_machine.specs.Outcome as machine;
 ghost use Rattle.ea_machine.specs.Setup.{setup_of};
 ghost use Rattle.ea_instance.specs.Layouts.{plain_layout};
 ghost use Rattle.ea_outcome.specs.Layouts.{layouts_in};
-ghost use Rattle.ea_given.specs.Layouts.{is_scheduled, layouts_of_run};
+ghost use Rattle.ea_given.specs.Layouts.{layouts_of_run};
 ghost use Rattle.ea_given.specs.Running.{AllRanOut, AllStand, AllStandAt, AllTook};
 ghost use Rattle.ea_given.specs.Runs.{FitsSuperCarrier, HasCompleted, HasScheduler, HasTaken, IsRun};
 ghost use Rattle.ea_given.specs.Runs.{StandsAfter, StaysInOperation, Tells, done_after, ended_after};
 ghost use Rattle.ea_given.specs.Runs.{holds_after, spot_after};
 
-use crate::modes::turns_of;
 use crate::turns::{run_out, step_some, take_turns};
 use ea_instance::Layout;
 use ea_mbc::Mbc;
@@ -274,7 +273,7 @@ fn run_to_end<'t>(
         (course_of (setup_of config trace.now) trace.now.mode)) }
 {
     let mut run = GivenRun::new(alloc, config, trace)?;
-    run.take(alloc, turns_of(&trace.mode))?;
+    run.take(alloc, trace.mode.turns_of())?;
     run.complete(alloc)?;
     Ok(run)
 }

@@ -9,11 +9,11 @@ use Rattle.ea_model.specs.Trace.{plain, plain_mode}
 use Rattle.ea_machine.specs.Completion.{course_of, end_of}
 use Rattle.ea_machine.specs.Machine.{run}
 use Rattle.ea_machine.specs.Setup.{Setup, setup_of}
+use Rattle.ea_sound.proofs.Plain.{same-setup}
 use Rattle.ea_instance.specs.declared.layouts.Layout.{Layout}
 use Rattle.ea_instance.specs.Layouts.{plain_layout}
 use Rattle.ea_outcome.specs.Layouts.{layouts_in}
 use Rattle.ea_given.specs.Layouts.{layouts_of_run}
-use Rattle.ea_given.proofs.Plain.{same-setup}
 use Rattle.ea_hist.specs.Intervals.{counts}
 use Rattle.ea_hist.specs.Text.{blocks_in, counts_text, gaps_in, histograms_text, layout_text, sums}
 use Rattle.ea_hist.proofs.Counts.{counts-sums}

@@ -3,10 +3,10 @@ use Rattle.std.specs.Prelude.{◌≡◌, ℕ, List}
 use Rattle.ea_frame.specs.Language.{Language}
 use Rattle.ea_model.specs.declared.settings.Config.{Config}
 use Rattle.ea_model.specs.declared.trace.Trace.{Trace}
-use Rattle.ea_model.specs.Trace.{IsValidTrace}
+use Rattle.ea_model.specs.Trace.{IsValidTrace, is_scheduled}
 use Rattle.ea_machine.specs.Setup.{setup_of}
 use Rattle.ea_sound.specs.MachineLaws.{Protocol}
-use Rattle.ea_given.specs.Layouts.{is_scheduled, layouts_of_run}
+use Rattle.ea_given.specs.Layouts.{layouts_of_run}
 use Rattle.ea_hist.specs.Text.{histograms_text}
 use Rattle.ea_trace.specs.Language.{trace}
 

@@ -8,7 +8,7 @@ ghost use Rattle.ea_model.specs.Settings.{IsValidConfig};
 
 use crate::text::print_histograms;
 use ea_frame::{Fault, Part};
-use ea_given::{is_scheduled, run_layouts};
+use ea_given::run_layouts;
 use ea_model::{Config, List};
 use ea_trace::read_trace;
 use std::alloc::Global;
@@ -24,7 +24,7 @@ impl Part for Histograms {
 
     fn text_of(&self, alloc: Global, config: Config, input: &[u8]) -> Result<List<u8>, Fault> {
         let trace = read_trace(alloc, input, config.schedulers)?;
-        if !is_scheduled(&trace.mode) {
+        if !trace.mode.is_scheduled() {
             return Err(Fault::ScheduleWanted);
         }
         let layouts = run_layouts(alloc, config, &trace)?;

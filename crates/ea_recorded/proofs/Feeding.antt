@@ -30,7 +30,6 @@ use Rattle.ea_trace.specs.declared.lines.Line.TheVariants as said
 use Rattle.ea_trace.specs.declared.stages.Stage.{Stage}
 use Rattle.ea_trace.specs.declared.stages.Stage.TheVariants as at
 use Rattle.ea_trace.specs.declared.takes.TakeLine.{TakeLine}
-use Rattle.ea_trace.proofs.Followed.{same_number}
 use Rattle.ea_trace.proofs.Ranges.{words_ranges}
 use Rattle.ea_trace.specs.Ranges.{HasRanges, InRange}
 use Rattle.ea_recorded.specs.Language.{Placed, Told, answer_in, end_line, is_of, own_of, placed}
@@ -86,8 +85,11 @@ said-each low (suc count) me all from to =
           (omega (arith, from, other)) (omega (arith, to))
     ]
 
+same-number : (k j : ℕ) → (k == j) ≡ true → k ≡ j
+same-number k j e = grind arith
+
 section-is : (me : ℕ) (s : Said) → is_section me s ≡ true → said.Section me ≡ s
-section-is me (said.Section number) e = ap said.Section (sym (same_number number me e))
+section-is me (said.Section number) e = ap said.Section (sym (same-number number me e))
 section-is me said.Skipped e = absurd cc
 section-is me (said.Letter x) e = absurd cc
 section-is me (said.Operation op) e = absurd cc

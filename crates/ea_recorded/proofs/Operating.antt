@@ -1,31 +1,28 @@
 -- The turns of a line: those of its scheduler until its log has grown.
-use Rattle.std.proofs.Common.{◌≡◌, ◌≢◌, ℕ, zero, suc, ◌+◌, ◌<◌, ◌≤◌, ◌||◌, Bool, true, false}
+use Rattle.std.proofs.Common.{◌≡◌, ℕ, zero, suc, ◌+◌, ◌<◌, ◌≤◌, ◌||◌, Bool, true, false}
 use Rattle.std.proofs.Common.{List, [], ◌∷◌, ◌++◌, refl, sym, ap, ◌∙◌, subst, arith}
 use Rattle.std.specs.Prelude.{None, nat_lt, replicate}
 use Rattle.std.proofs.lemmas.List.{append-nil, append_assoc}
-use Rattle.ea_model.specs.Content.{Content}
 use Rattle.ea_model.specs.declared.settings.Config.{Config}
 use Rattle.ea_model.specs.declared.trace.Trace.{Trace}
 use Rattle.ea_model.specs.Settings.{IsValidConfig}
 use Rattle.ea_model.specs.Trace.{IsScheduler, IsValidTrace, stop_in}
-use Rattle.ea_machine.specs.declared.stages.Stage.{Stage}
-use Rattle.ea_machine.specs.declared.stages.Stage.TheVariants.{Ended}
 use Rattle.ea_machine.specs.Completion.{work}
 use Rattle.ea_machine.specs.Machine.{IsReached, run, run_on, start, step}
 use Rattle.ea_machine.specs.Setup.{Setup, setup_of}
 use Rattle.ea_machine.specs.State.{State}
 use Rattle.ea_machine.specs.Stops.{run_with_stops}
-use Rattle.ea_sound.proofs.Completing.{reached-step}
+use Rattle.ea_sound.specs.Turns.{is_ended}
+use Rattle.ea_sound.proofs.Asked.{reached-rule}
+use Rattle.ea_sound.proofs.Completing.{reached-step, rule-less}
+use Rattle.ea_sound.proofs.Growing.{same-going, same-log}
 use Rattle.ea_sound.proofs.Protocols.{always-protocol}
-use Rattle.ea_sound.proofs.TurnLists.{run-append}
-use Rattle.ea_sched.specs.Acting.{is_ended}
+use Rattle.ea_sound.proofs.TurnLists.{not-ended, run-append}
 use Rattle.ea_given.specs.declared.run.GivenRun.{GivenRun}
 use Rattle.ea_given.specs.Runs.{HasScheduler, HasTaken, IsRun, StandsAfter, StaysInOperation}
 use Rattle.ea_given.specs.Runs.{Tells, done_after, ended_after, left_in, log_length}
 use Rattle.ea_sound.proofs.Stopping.{cut-none}
-use Rattle.ea_given.proofs.Growing.{same-going, same-log}
 use Rattle.ea_given.proofs.GivenRuns.{left-work}
-use Rattle.ea_given.proofs.Running.{some-less}
 use Rattle.ea_recorded.specs.Order.{is_over, line_turns, operating, turns_in_order}
 use Rattle.ea_recorded.specs.Running.{HasRun, HasRunAll, IsUnstopped}
 
@@ -36,9 +33,6 @@ or-left true b e = absurd cc
 or-right : (a b : Bool) → (a || b) ≡ false → b ≡ false
 or-right false b e = e
 or-right true b e = absurd cc
-
-not-ended : (stage : Stage Content) → is_ended stage ≡ false → stage ≢ Ended
-not-ended stage is = λ q. let no : true ≡ false = sym (ap is_ended q) ∙ is in cc
 
 -- it isn't over while the log is the same and the scheduler hasn't ended
 still : (done me : ℕ) (w v : State) → is_over done w me ≡ false
@@ -66,10 +60,9 @@ module _ (c : Config) (t : Trace) (config : IsValidConfig c)
 
     less : (w : State) → IsReached e w → is_over done w me ≡ false
         → work e (step e w me) me < work e w me
-    less w reached going = some-less c t config valid me 1 None w reached
+    less w reached going = rule-less e w me (reached-rule c t config valid w reached)
         (not-ended (w.actors me).stage
         (or-left (is_ended (w.actors me).stage) (nat_lt done (log_length w me)) going))
-        (λ no. absurd cc) (omega arith)
 
     -- they are the next ones
     record Follows (count most : ℕ) (w : State) : Type 0 where

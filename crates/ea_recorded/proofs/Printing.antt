@@ -9,8 +9,8 @@ use Rattle.ea_model.specs.Outcome.{logs_of, plain_outcome}
 use Rattle.ea_model.specs.Trace.{IsValidTrace, listed, plain}
 use Rattle.ea_machine.specs.Outcome.{outcome}
 use Rattle.ea_machine.specs.Setup.{setup_of}
+use Rattle.ea_sound.proofs.Plain.{same-setup, valid-plain}
 use Rattle.ea_report.specs.Text.{outcome_text}
-use Rattle.ea_given.proofs.Plain.{same-setup, valid-plain}
 use Rattle.ea_recorded.specs.Order.{recorded_turns}
 use Rattle.ea_recorded.specs.Output.{IsRecordedText}
 

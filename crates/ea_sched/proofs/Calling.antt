@@ -31,11 +31,12 @@ use Rattle.ea_machine.specs.Table.{answer}
 use Rattle.ea_machine.specs.Walks.{ready, with_passed, worked_off}
 use Rattle.ea_shared.specs.Calls.{Did, Told}
 use Rattle.ea_names.specs.Holding.{has_place}
+use Rattle.ea_sound.specs.Turns.{is_ended}
 use Rattle.ea_sound.proofs.Calls as calls
 use Rattle.ea_sound.proofs.FewCreated.{created-counts}
 use Rattle.ea_sound.proofs.FewPassed.{passes-few}
 use Rattle.ea_sched.specs.declared.state.Scheduler.{Scheduler}
-use Rattle.ea_sched.specs.Acting.{actor_of, is_ended, setup_for, standing_at}
+use Rattle.ea_sched.specs.Acting.{actor_of, setup_for, standing_at}
 use Rattle.ea_sched.specs.Asking.{CanCount, CanWorkOff, HasMore, IsFresh, SuitsNext}
 use Rattle.ea_sched.specs.Creations.{PlansAt, PlansFrom}
 use Rattle.ea_sched.specs.Steps.{DidRow, IsReadyAt}

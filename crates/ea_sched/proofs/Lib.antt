@@ -8,7 +8,6 @@ pub mod Seeking
 pub mod StandsOn
 pub mod OwnCarriers
 pub mod Starting
-pub mod Texts
 pub mod AfterWalk
 pub mod CarrierCalling
 pub mod Carrying

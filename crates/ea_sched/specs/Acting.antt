@@ -1,35 +1,20 @@
 -- A scheduler as an actor of the machine.
-use Rattle.std.specs.Prelude.{◌≡◌, ℕ, Bool, true, false, ◌==◌, ◌&&◌, ◌||◌, not, Option, None, Some}
+use Rattle.std.specs.Prelude.{◌≡◌, ℕ, Bool, false, ◌==◌, ◌&&◌, ◌||◌, not, Option, None, Some}
 use Rattle.std.specs.Prelude.{List, [], ◌∷◌, drop}
 use Rattle.ea_model.specs.Entries.{Entry}
 use Rattle.ea_model.specs.declared.entries.Entry.TheVariants as entry
 use Rattle.ea_model.specs.Content.{Content}
 use Rattle.ea_machine.specs.Setup.{Setup, setup_of}
 use Rattle.ea_machine.specs.declared.stages.Stage.{Stage}
-use Rattle.ea_machine.specs.declared.stages.Stage.TheVariants.{Begin, Routed, Collecting}
-use Rattle.ea_machine.specs.declared.stages.Stage.TheVariants.{Searching, Fetching, Creating}
-use Rattle.ea_machine.specs.declared.stages.Stage.TheVariants.{Giving, Taking, Ended, Ready}
 use Rattle.ea_machine.specs.Actor.{Actor}
 use Rattle.ea_machine.specs.Stops.{stop_at}
 use Rattle.ea_machine.specs.Walks.{ready}
+use Rattle.ea_sound.specs.Turns.{is_ended}
 use Rattle.ea_sched.specs.declared.state.Scheduler.{Scheduler}
 
 -- the setup of the run
 abbrev pub setup_for : Scheduler → Setup
 setup_for s = setup_of s.config s.trace.now
-
--- whether its text is done
-abbrev pub is_ended : Stage Content → Bool
-is_ended Begin = false
-is_ended (Routed route why gone) = false
-is_ended (Collecting number) = false
-is_ended (Searching ask at part) = false
-is_ended (Fetching ask at part seen) = false
-is_ended (Creating ask p) = false
-is_ended (Giving given to) = false
-is_ended (Taking name tries left) = false
-is_ended Ended = true
-is_ended Ready = false
 
 -- whether no step is left until a stop
 abbrev pub is_over : Option ℕ → Bool

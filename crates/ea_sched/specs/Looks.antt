@@ -1,7 +1,7 @@
 -- Turns that a scheduler takes in a row.
 use Rattle.std.specs.Prelude.{◌≡◌, ℕ, ◌≤◌, false, Option, None, Some}
+use Rattle.ea_sound.specs.Turns.{is_ended}
 use Rattle.ea_sched.specs.declared.state.Scheduler.{Scheduler}
-use Rattle.ea_sched.specs.Acting.{is_ended}
 
 -- that many steps at least are left until a stop
 abbrev pub AreLeft : ℕ → Option ℕ → Type 0

@@ -185,3 +185,8 @@ pub mod PresentCarriers
 pub mod PresentContents
 pub mod PresentPlaces
 pub mod PresentUnits
+-- For runs of traces: texts, schedules and logs.
+pub mod Texts
+pub mod Plain
+pub mod Schedules
+pub mod Growing

@@ -1,6 +1,6 @@
 -- Lists of turns, and what a step leaves alone.
 use Rattle.std.proofs.Common.{◌≡◌, ◌≢◌, ◌⊎◌, ℕ, List, [], ◌∷◌, ◌++◌, refl, sym, ap, ◌∙◌, subst, inl}
-use Rattle.std.proofs.Common.{inr}
+use Rattle.std.proofs.Common.{inr, true, false}
 use Rattle.std.proofs.lemmas.List.{append_assoc, append-nil}
 use Rattle.ea_model.specs.Content.{Content}
 use Rattle.ea_machine.specs.declared.stages.Stage.{Stage}
@@ -14,7 +14,7 @@ use Rattle.ea_machine.specs.Setup.{Setup}
 use Rattle.ea_machine.specs.State.{State}
 use Rattle.ea_machine.specs.Statistics.{observed}
 use Rattle.ea_machine.specs.Table.{answer, effect}
-use Rattle.ea_sound.specs.Turns.{advanced}
+use Rattle.ea_sound.specs.Turns.{advanced, is_ended}
 use Rattle.ea_sound.specs.Moments.{with_actor}
 use Rattle.ea_sound.proofs.Totals.{put-here, put-other}
 
@@ -59,6 +59,21 @@ ended-or (Creating ask p) = inr (λ q. absurd (cc))
 ended-or (Giving h to) = inr (λ q. absurd (cc))
 ended-or (Taking n tries left) = inr (λ q. absurd (cc))
 ended-or Ready = inr (λ q. absurd (cc))
+
+pub ended-is : (stage : Stage Content) → is_ended stage ≡ true → stage ≡ Ended
+ended-is Begin is = absurd cc
+ended-is (Routed route why gone) is = absurd cc
+ended-is (Collecting number) is = absurd cc
+ended-is (Searching ask at looked) is = absurd cc
+ended-is (Fetching ask at looked seen) is = absurd cc
+ended-is (Creating ask p) is = absurd cc
+ended-is (Giving given to) is = absurd cc
+ended-is (Taking name tries left) is = absurd cc
+ended-is Ended is = refl
+ended-is Ready is = absurd cc
+
+pub not-ended : (stage : Stage Content) → is_ended stage ≡ false → stage ≢ Ended
+not-ended stage is = λ q. let no : true ≡ false = sym (ap is_ended q) ∙ is in cc
 
 module _ (e : Setup) (w : State) (s : ℕ) where
   -- another scheduler stays as it is

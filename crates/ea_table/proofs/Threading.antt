@@ -31,8 +31,9 @@ use Rattle.ea_machine.specs.Stops.{left_after}
 use Rattle.ea_machine.specs.Actor.{Actor}
 use Rattle.ea_machine.specs.Machine.{first_actor, run}
 use Rattle.ea_machine.specs.Setup.{setup_of}
+use Rattle.ea_sound.specs.Turns.{is_ended}
 use Rattle.ea_shared.specs.Calls.{Caller}
-use Rattle.ea_sched.specs.Acting.{actor_of, is_ended, is_over, rests, setup_for}
+use Rattle.ea_sched.specs.Acting.{actor_of, is_over, rests, setup_for}
 use Rattle.ea_sched.specs.declared.state.Scheduler.{Scheduler}
 use Rattle.ea_table.specs.declared.pass.Pass.{Pass}
 use Rattle.ea_sched.specs.Steps.{IsReady, Ready}

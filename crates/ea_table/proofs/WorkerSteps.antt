@@ -15,13 +15,13 @@ use Rattle.ea_machine.specs.State.{State}
 use Rattle.ea_shared.specs.Calls.{Caller, caller_of}
 use Rattle.ea_sound.specs.Entries.{Tells}
 use Rattle.ea_sound.specs.OwnWork.{own_work}
-use Rattle.ea_sound.specs.Turns.{log_after}
+use Rattle.ea_sound.specs.Turns.{is_ended, log_after}
 use Rattle.ea_sound.proofs.OwnWork.{own-less}
 use Rattle.ea_sound.proofs.Protocols.{always-protocol}
 use Rattle.ea_sound.proofs.Stopping.{count-append, count-no, count-replicate}
 use Rattle.ea_sound.proofs.TurnLists.{run-snoc}
 use Rattle.ea_sched.specs.declared.state.Scheduler.{Scheduler}
-use Rattle.ea_sched.specs.Acting.{actor_of, is_ended, is_over, rests}
+use Rattle.ea_sched.specs.Acting.{actor_of, is_over, rests}
 use Rattle.ea_sched.specs.Steps.{IsReady, Ready, Stepped}
 use Rattle.ea_sched.proofs.Doing.{front-stands}
 use Rattle.ea_machine.specs.Stops.{count_of, less}

@@ -16,8 +16,8 @@ use Rattle.ea_machine.specs.Outcome.{outcome, outcome_of}
 use Rattle.ea_machine.specs.Setup.{Setup, setup_of}
 use Rattle.ea_top.specs.Output.{IsRunOutcome, IsRunText, filled_by, outcome_after, run_setup}
 use Rattle.ea_top.specs.Output.{text_by}
+use Rattle.ea_sound.proofs.Plain.{same-setup, valid-plain}
 use Rattle.ea_sound.proofs.Protocols.{always-protocol}
-use Rattle.ea_given.proofs.Plain.{same-setup, valid-plain}
 use Rattle.ea_top.proofs.Valid.{filled-valid}
 
 same_end : (setup : Setup) (m : Mode) → course_of setup (plain_mode m) ≡ course_of setup m

@@ -11,9 +11,9 @@ use Rattle.ea_model.specs.declared.trace.Turns.{Turns}
 use Rattle.ea_model.specs.Trace.{IsScheduler}
 use Rattle.ea_machine.specs.Completion.{work}
 use Rattle.ea_machine.specs.State.{State}
+use Rattle.ea_sound.proofs.Schedules.{turns-more, turns_from}
 use Rattle.ea_given.specs.Runs as one
 use Rattle.ea_given.specs.Runs.{left_in}
-use Rattle.ea_given.proofs.Ends.{turns-more, turns_from}
 use Rattle.ea_given.proofs.GivenRuns.{left-work}
 use Rattle.ea_types.specs.declared.given.TypedRun.{TypedRun}
 use Rattle.ea_types.specs.Courses.{types_of}

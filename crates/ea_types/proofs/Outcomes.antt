@@ -23,9 +23,9 @@ use Rattle.ea_model.specs.Outcome.{logs_of, plain_outcome}
 use Rattle.ea_model.specs.Trace.{listed, plain, plain_mode, texts_of}
 use Rattle.ea_machine.specs.Outcome.{outcome}
 use Rattle.ea_machine.specs.Setup.{Setup, setup_of}
+use Rattle.ea_sound.proofs.Plain.{same-setup}
 use Rattle.ea_report.specs.Text.{outcome_text}
 use Rattle.ea_table.specs.Threads.{IsOfRun}
-use Rattle.ea_given.proofs.Plain.{same-setup}
 use Rattle.ea_trace.specs.Language.{lines_of}
 use Rattle.ea_types.specs.Courses.{IsOwnCourse, lines_for, types_of}
 use Rattle.ea_types.specs.Given.{ArePrinted, parts_in}

@@ -12,13 +12,13 @@ use Rattle.ea_machine.specs.Machine.{run, run_on, start}
 use Rattle.ea_machine.specs.Setup.{Setup}
 use Rattle.ea_machine.specs.State.{State}
 use Rattle.ea_machine.specs.Stops.{cut, put_left, run_with_stops, up_to}
+use Rattle.ea_sound.specs.Turns.{is_ended}
+use Rattle.ea_sound.proofs.Growing.{same-going, same-log}
 use Rattle.ea_sound.proofs.Protocols.{always-protocol}
 use Rattle.ea_sound.proofs.TurnLists.{run-append}
-use Rattle.ea_sched.specs.Acting.{is_ended}
 use Rattle.ea_given.specs.declared.run.GivenRun.{GivenRun}
 use Rattle.ea_given.specs.Runs as one
 use Rattle.ea_given.specs.Runs.{done_after, ended_after, log_length}
-use Rattle.ea_given.proofs.Growing.{same-going, same-log}
 use Rattle.ea_types.specs.declared.given.TypedRun.{TypedRun}
 use Rattle.ea_types.specs.Courses.{types_of}
 use Rattle.ea_types.specs.Given.{HasGrown, HasScheduler, IsEnding, StandsAfter}

@@ -6,40 +6,21 @@ use Rattle.std.specs.List.{range_with_len}
 use Rattle.std.proofs.lemmas.Bool.{cases_Bool, cases_eq}
 use Rattle.std.proofs.lemmas.List.Elements.{All-append, All-cons, All-head, All-nil, All-tail}
 use Rattle.std.proofs.lemmas.List.Sums.{sum_by-cons}
-use Rattle.ea_model.specs.Content.{Content}
-use Rattle.ea_machine.specs.declared.stages.Stage.{Stage}
-use Rattle.ea_machine.specs.declared.stages.Stage.TheVariants.{Begin, Routed, Collecting}
-use Rattle.ea_machine.specs.declared.stages.Stage.TheVariants.{Searching, Fetching, Creating}
-use Rattle.ea_machine.specs.declared.stages.Stage.TheVariants.{Giving, Taking, Ended, Ready}
+use Rattle.ea_machine.specs.declared.stages.Stage.TheVariants.{Ended}
 use Rattle.ea_machine.specs.Actor.{Actor}
 use Rattle.ea_machine.specs.Completion.{work}
 use Rattle.ea_machine.specs.Machine.{IsReached, step}
 use Rattle.ea_machine.specs.Shared.{put}
 use Rattle.ea_machine.specs.State.{State}
+use Rattle.ea_sound.specs.Turns.{is_ended}
 use Rattle.ea_sound.proofs.Completing.{reached-step}
 use Rattle.ea_sound.proofs.TextTotals.{All-back}
 use Rattle.ea_sound.proofs.Totals.{put-here, put-other}
-use Rattle.ea_sound.proofs.TurnLists.{step-ended, step-other}
-use Rattle.ea_sched.specs.Acting.{is_ended}
+use Rattle.ea_sound.proofs.TurnLists.{ended-is, not-ended, step-ended, step-other}
 use Rattle.ea_given.specs.Runs.{log_length}
 use Rattle.ea_types.specs.Turning.{Standing, Types, after_by, after_first, all_work, first_going}
 use Rattle.ea_types.specs.Turning.{going_or, lines_after, turn_of, turned, turned_by}
 use Rattle.ea_types.specs.Turning.{turned_in, turned_on}
-
-pub ended-is : (stage : Stage Content) → is_ended stage ≡ true → stage ≡ Ended
-ended-is Begin is = absurd cc
-ended-is (Routed route why gone) is = absurd cc
-ended-is (Collecting number) is = absurd cc
-ended-is (Searching ask at part) is = absurd cc
-ended-is (Fetching ask at part seen) is = absurd cc
-ended-is (Creating ask p) is = absurd cc
-ended-is (Giving given to) is = absurd cc
-ended-is (Taking name tries left) is = absurd cc
-ended-is Ended is = refl
-ended-is Ready is = absurd cc
-
-pub not-ended : (stage : Stage Content) → is_ended stage ≡ false → stage ≢ Ended
-not-ended stage is = λ q. let no : true ≡ false = sym (ap is_ended q) ∙ is in cc
 
 pub is-false : (b : Bool) → not b ≡ true → b ≡ false
 is-false true is = absurd cc

@@ -9,7 +9,7 @@ use Rattle.ea_machine.specs.Machine.{run, start, step}
 use Rattle.ea_machine.specs.Setup.{Setup}
 use Rattle.ea_machine.specs.Shared.{put}
 use Rattle.ea_machine.specs.State.{State}
-use Rattle.ea_sched.specs.Acting.{is_ended}
+use Rattle.ea_sound.specs.Turns.{is_ended}
 use Rattle.ea_given.specs.Runs.{log_length}
 
 -- what stays the same: how many types and schedulers there are, the setup of each type by its place

@@ -6,7 +6,7 @@ use Rattle.ea_model.specs.Lists.{Items}
 use Rattle.ea_model.specs.Outcome.{plain_outcome}
 use Rattle.ea_model.specs.Trace.{IsScheduler}
 use Rattle.ea_machine.specs.Setup.{setup_of}
-use Rattle.ea_given.proofs.Ends.{turns-theirs, turns_from}
+use Rattle.ea_sound.proofs.Schedules.{turns-theirs, turns_from}
 use Rattle.ea_contents.specs.declared.access.AccessEntry.{AccessEntry}
 use Rattle.ea_contents.specs.Model.{completing, opening}
 use Rattle.ea_contents.specs.Playing.{outcome_played, shown_played}

@@ -4,8 +4,8 @@ use Rattle.ea_machine.specs.Completion.{course_of, turns_in}
 use Rattle.ea_machine.specs.Machine.{run}
 use Rattle.ea_machine.specs.Setup.{setup_of}
 use Rattle.ea_sound.proofs.Protocols.{always-protocol}
+use Rattle.ea_sound.proofs.Schedules.{scheduled-texts}
 use Rattle.ea_outcome.specs.Layouts.{layouts_in}
-use Rattle.ea_given.proofs.GivenRuns.{scheduled-texts}
 use Rattle.ea_given.proofs.run.run_layouts.Goals as goal
 
 pub run_to_end-requires-clause-texts : goal.run_to_end-requires-clause-texts

@@ -1,9 +1,9 @@
 use Rattle.std.proofs.Common.{◌-◌, List, subst, arith, get_or, take}
 use Rattle.std.proofs.lemmas.List.{take_all}
 use Rattle.ea_model.specs.declared.trace.Turns.{Turns}
+use Rattle.ea_sound.proofs.Schedules.{turns_from}
 use Rattle.ea_given.specs.Running.{AllTook}
 use Rattle.ea_given.proofs.Ends.{all-stand-one, all-took-stand, none-taken, schedule-more}
-use Rattle.ea_given.proofs.Ends.{turns_from}
 use Rattle.ea_given.proofs.run.run_schedule.Goals as goal
 
 pub loop-turns-init : goal.loop-turns-init

@@ -5,8 +5,8 @@ use Rattle.ea_model.specs.declared.trace.Turns.{Turns}
 use Rattle.ea_model.specs.Trace.{IsScheduler}
 use Rattle.ea_machine.specs.Completion.{complete}
 use Rattle.ea_machine.specs.Setup.{setup_of}
+use Rattle.ea_sound.proofs.Schedules.{turns-theirs, turns_from}
 use Rattle.ea_given.specs.Runs.{StandsAfter}
-use Rattle.ea_given.proofs.Ends.{turns-theirs, turns_from}
 use Rattle.ea_given.proofs.run.run_to_end.Goals as goal
 
 pub take-requires-clause-theirs : goal.take-requires-clause-theirs

@@ -1,6 +1,6 @@
 use Rattle.std.proofs.Common.{[], arith}
 use Rattle.std.proofs.lemmas.Result.{IfOk-weaker}
-use Rattle.ea_given.proofs.Ends.{turns_from}
+use Rattle.ea_sound.proofs.Schedules.{turns_from}
 use Rattle.ea_types.specs.Courses.{types_of}
 use Rattle.ea_types.specs.Given.{parts_in}
 use Rattle.ea_types.specs.Turning.{complete}

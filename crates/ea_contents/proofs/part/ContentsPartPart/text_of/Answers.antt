@@ -1,8 +1,8 @@
 use Rattle.std.proofs.Common.{◌≡◌, ◌&&◌, true, map, sym, ap, subst, ◌∙◌}
 use Rattle.std.specs.Prelude.{IsOkAnd}
+use Rattle.ea_sound.proofs.Plain.{same-schedule}
 use Rattle.ea_sound.proofs.Protocols.{always-protocol}
 use Rattle.ea_trace.specs.Language.{no_stops}
-use Rattle.ea_given.proofs.Plain.{same-schedule}
 use Rattle.ea_contents.specs.Command.{IsContentsText}
 use Rattle.ea_contents.specs.Language.{is_run}
 use Rattle.ea_contents.specs.Script.{script_of, sections_of}

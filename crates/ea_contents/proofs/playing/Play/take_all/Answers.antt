@@ -1,5 +1,5 @@
 use Rattle.std.proofs.Common.{take}
-use Rattle.ea_given.proofs.Ends.{turns_from}
+use Rattle.ea_sound.proofs.Schedules.{turns_from}
 use Rattle.ea_contents.proofs.Played.{goes-has, goes-is, schedule-all, schedule-more}
 use Rattle.ea_contents.proofs.playing.Play.take_all.Goals as goal
 

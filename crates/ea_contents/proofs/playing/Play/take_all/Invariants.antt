@@ -1,5 +1,5 @@
 use Rattle.std.specs.Prelude.{take}
-use Rattle.ea_given.proofs.Ends.{turns_from}
+use Rattle.ea_sound.proofs.Schedules.{turns_from}
 use Rattle.ea_contents.proofs.Played.{Taken}
 use Rattle.ea_contents.proofs.playing.Play.take_all.Given as goal
 

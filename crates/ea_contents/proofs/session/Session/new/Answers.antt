@@ -1,6 +1,6 @@
 use Rattle.std.proofs.Common.{ℕ, length, refl, ap, arith}
 use Rattle.std.proofs.lemmas.List.{length-replicate}
-use Rattle.ea_given.proofs.GivenRuns.{scheduled-texts}
+use Rattle.ea_sound.proofs.Schedules.{scheduled-texts}
 use Rattle.ea_contents.proofs.Standing.{start-empty}
 use Rattle.ea_contents.proofs.session.Session.new.Goals as goal
 

@@ -1,7 +1,8 @@
 use Rattle.std.proofs.Common.{refl, subst, sym, ◌∙◌}
 use Rattle.std.proofs.lemmas.Result.{on_ok_weaker}
+use Rattle.ea_sound.proofs.Schedules.{turns_from}
 use Rattle.ea_given.specs.Running.{AllTook}
-use Rattle.ea_given.proofs.Ends.{turns_from, written}
+use Rattle.ea_given.proofs.Ends.{written}
 use Rattle.ea_given.proofs.GivenRuns.{has-taken}
 use Rattle.ea_given.proofs.run.GivenRun.take.Goals as goal
 

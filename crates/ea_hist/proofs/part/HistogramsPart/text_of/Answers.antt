@@ -1,8 +1,8 @@
 use Rattle.std.proofs.Common.{◌≡◌, true, sym, ap, subst, ◌∙◌}
 use Rattle.std.specs.Prelude.{IsOkAnd}
+use Rattle.ea_model.specs.Trace.{is_scheduled}
+use Rattle.ea_sound.proofs.Plain.{same-schedule}
 use Rattle.ea_sound.proofs.Protocols.{always-protocol}
-use Rattle.ea_given.specs.Layouts.{is_scheduled}
-use Rattle.ea_given.proofs.Plain.{same-schedule}
 use Rattle.ea_hist.specs.Language.{IsHistograms}
 use Rattle.ea_hist.specs.Text.{histograms_text}
 use Rattle.ea_hist.proofs.Traces.{plain-layouts, plain-text}

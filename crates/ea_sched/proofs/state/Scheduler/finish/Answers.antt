@@ -1,7 +1,7 @@
 use Rattle.std.proofs.Common.{◌+◌, drop}
+use Rattle.ea_sound.proofs.Texts.{drop-later}
 use Rattle.ea_sched.specs.Acting.{ready_of}
 use Rattle.ea_sched.proofs.Acts.{finished}
-use Rattle.ea_sched.proofs.Texts.{drop-later}
 use Rattle.ea_sched.proofs.state.Scheduler.finish.Goals as goal
 
 pub returns-clause-actor : goal.returns-clause-actor

@@ -6,9 +6,9 @@ use Rattle.ea_model.specs.Trace.{greatest_in, stop_in}
 use Rattle.ea_machine.specs.Setup.{setup_of}
 use Rattle.ea_machine.specs.Statistics.{seen, unseen}
 use Rattle.ea_sound.proofs.Asked.{text-upto}
+use Rattle.ea_sound.proofs.Texts.{text-is}
 use Rattle.ea_search.specs.Rooms.{RoomyLists}
 use Rattle.ea_sched.proofs.Starting.{starts}
-use Rattle.ea_sched.proofs.Texts.{text-is}
 use Rattle.ea_sched.proofs.state.Scheduler.new.Goals as goal
 
 pub get-requires : goal.get-requires

@@ -1,7 +1,7 @@
 use Rattle.std.proofs.Common.{List, subst, take}
 use Rattle.std.proofs.lemmas.List.{take_all}
 use Rattle.ea_model.specs.declared.trace.Turns.{Turns}
-use Rattle.ea_given.proofs.Ends.{turns_from}
+use Rattle.ea_sound.proofs.Schedules.{turns_from}
 use Rattle.ea_types.specs.Given.{HasTaken}
 use Rattle.ea_types.proofs.Completions.{schedule-more, taken-has, taken-none, taken-run}
 use Rattle.ea_types.proofs.given.TypedRun.take_all.Goals as goal

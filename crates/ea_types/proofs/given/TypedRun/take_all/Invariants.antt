@@ -1,5 +1,5 @@
 use Rattle.std.specs.Prelude.{take}
-use Rattle.ea_given.proofs.Ends.{turns_from}
+use Rattle.ea_sound.proofs.Schedules.{turns_from}
 use Rattle.ea_types.specs.Given.{HasTaken}
 use Rattle.ea_types.proofs.given.TypedRun.take_all.Given as goal
 

@@ -10,11 +10,10 @@ use Rattle.ea_model.specs.declared.trace.Trace.{Trace}
 use Rattle.ea_model.specs.declared.units.TheConstants.{MAX_ALL_TRIES, MAX_OPS}
 use Rattle.ea_model.specs.Settings.{region_pages, settings_of}
 use Rattle.ea_model.specs.Trace.{BringsBefore, HasTexts, IsOperation, IsValidMode, IsValidTrace}
-use Rattle.ea_model.specs.Trace.{MayStop, gives, gives_to, greatest_of, makes, plain, plain_mode}
-use Rattle.ea_model.specs.Trace.{stop_in, takes, text_at, texts_of, tries_of}
+use Rattle.ea_model.specs.Trace.{MayStop, gives, gives_to, greatest_of, is_scheduled, makes, plain}
+use Rattle.ea_model.specs.Trace.{plain_mode, stop_in, takes, text_at, texts_of, tries_of}
 use Rattle.ea_model.proofs.Traces.{plain-texts}
 use Rattle.ea_machine.specs.Setup.{setup_of, text_for}
-use Rattle.ea_given.specs.Layouts.{is_scheduled}
 
 texts-plain : (n : ℕ) (m : Mode) (texts : List (List Op)) → HasTexts n m texts
     → HasTexts n (plain_mode m) texts
