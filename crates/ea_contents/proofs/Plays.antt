@@ -27,7 +27,6 @@ use Rattle.ea_sound.proofs.Totals.{put-here, put-other}
 use Rattle.ea_sound.proofs.TurnLists.{ended-is, run-snoc, step-other}
 use Rattle.ea_given.specs.Runs.{left_in}
 use Rattle.ea_sound.proofs.Stopping.{cut-none}
-use Rattle.ea_given.proofs.GivenRuns.{left-work}
 use Rattle.ea_contents.specs.declared.access.Access.{Access}
 use Rattle.ea_contents.specs.declared.access.AccessEntry.{AccessEntry}
 use Rattle.ea_contents.specs.declared.input.Placed.{Placed}
@@ -308,7 +307,7 @@ module _ (c : Config) (t : Trace) (ss : List (List Placed)) (m : Moment) (p : Pl
     all-taken = ap (run e) (cut-none e.stops no-stops at.taken)
 
     left-is : left_in i p.session.run ≡ work e m.state i
-    left-is = left-work c t at.taken p.session.run at.session.run i mine
+    left-is = at.session.run.left i mine
         ∙ ap (λ (w : State). work e w i) (all-taken ∙ sym at.state)
 
     pub turns-are : turns_to i p

@@ -79,6 +79,32 @@ ends-left c t ss w left stand rest = record {
       };
 }
 
+got : {A : Type 0} (P : Option A → Type 0) (xs : List A) (i : ℕ) → i < length xs
+    → ((d : A) → P (Some (get_or xs i d))) → P (slice_get xs i)
+got P [] i below each = absurd (omega (arith, below))
+got P (x ∷ xs) zero below each = each x
+got P (x ∷ xs) (suc i) below each = got P xs i (omega (arith, below)) each
+
+-- the work that a scheduler has left, as its fields tell it
+left-work : (c : Config) (t : Trace) (turns : List ℕ) (r : GivenRun)
+    → SharesAt c t r.shared (run_with_stops (setup_of c t) turns)
+    → AllStandAt c t (left_after (setup_of c t) turns) r.schedulers.items
+    (run_with_stops (setup_of c t) turns)
+    → (me : ℕ) → IsScheduler c.schedulers me
+    → left_in me r ≡ work (setup_of c t) (run_with_stops (setup_of c t) turns) me
+left-work c t turns r shares stand me has =
+    let e = setup_of c t in
+    let place : (me - 1) + 1 ≡ me = omega (arith, has.0) in
+    let below : me - 1 < length r.schedulers.items =
+    omega (arith, has.0, has.1, stand.all) in
+    got (λ o. left_to o r.shared ≡ work e (run_with_stops e turns) me) r.schedulers.items (me - 1)
+    below
+    (λ d.
+    let mate = get_or r.schedulers.items (me - 1) d in
+    sym (work-is c t me (left_after e turns me) mate (run_with_stops e turns)
+    (subst (λ i. StandsAt c t i (left_after e turns i) mate (run_with_stops e turns)) place
+    (stand.each (me - 1) d below)) r.shared shares))
+
 -- the run has gone on
 module _ (r q : GivenRun) (config : q.config ≡ r.config) (trace : q.trace ≡ r.trace) where
   pub has-taken : (more : List ℕ)
@@ -91,14 +117,16 @@ module _ (r q : GivenRun) (config : q.config ≡ r.config) (trace : q.trace ≡ 
       let same : run_on e w (cut left more) ≡ run_with_stops e (turns ++ more) =
       sym (ap (run e) (cut-append e.stops turns more)
       ∙ run-append e (start e) (cut e.stops turns) (cut left more)) in
+      let shares = subst (SharesAt c t q.shared) same then.0 in
+      let stand = subst (AllStandAt c t (left_after e (turns ++ more)) q.schedulers.items) same
+      (other-left c t (left_by left more) q.schedulers.items (run_on e w (cut left more)) then.1
+      (left_after e (turns ++ more)) (λ k. left-more e.stops turns more (k + 1))) in
       record {
         config = config ∙ at.config;
         trace = ap (λ x. x.now) trace ∙ at.trace;
-        shared = subst (SharesAt c t q.shared) same then.0;
-        schedulers = subst
-            (AllStandAt c t (left_after e (turns ++ more)) q.schedulers.items) same
-            (other-left c t (left_by left more) q.schedulers.items (run_on e w (cut left more))
-            then.1 (left_after e (turns ++ more)) (λ k. left-more e.stops turns more (k + 1)));
+        shared = shares;
+        schedulers = stand;
+        left = left-work c t (turns ++ more) q shares stand;
       }
 
   pub has-completed : AllRanOut r.schedulers.items r.shared q.schedulers.items q.shared
@@ -116,15 +144,18 @@ module _ (r q : GivenRun) (config : q.config ≡ r.config) (trace : q.trace ≡ 
       (fun_ext (λ i. sym (cut-left e.stops turns i)))
       ∙ sym (run-append e (start e) taken (completion e taken))
       ∙ ap (run e) (sym (protocol.within turns)) in
+      let shares = subst (SharesAt c t q.shared) same then.0 in
+      let stand = ends-left c t q.schedulers.items (run_with_stops e all) (left_after e all)
+      (subst (AllStandAt c t (λ _. Some 0) q.schedulers.items) same then.1)
+      (subst (λ (v : State). (i : ℕ) → ((v.actors i).stage ≡ Ended)
+      ⊎ (left_after e all i ≡ Some 0))
+      (ap (run e) (sym (protocol.within turns))) (protocol.ends turns)) in
       record {
         config = config ∙ at.config;
         trace = ap (λ x. x.now) trace ∙ at.trace;
-        shared = subst (SharesAt c t q.shared) same then.0;
-        schedulers = ends-left c t q.schedulers.items (run_with_stops e all) (left_after e all)
-            (subst (AllStandAt c t (λ _. Some 0) q.schedulers.items) same then.1)
-            (subst (λ (v : State). (i : ℕ) → ((v.actors i).stage ≡ Ended)
-            ⊎ (left_after e all i ≡ Some 0))
-            (ap (run e) (sym (protocol.within turns))) (protocol.ends turns));
+        shared = shares;
+        schedulers = stand;
+        left = left-work c t all q shares stand;
       }
 
   module _ (is : IsRun r) (me : ℕ) (has : HasScheduler me r) (count : ℕ) (s u : Scheduler)
@@ -164,12 +195,14 @@ pub new-stands : (c : Config) (t : Trace) (r : GivenRun) → r.config ≡ c → 
     → StandsAfter c t [] r
 new-stands c t r config trace shares stand =
     let e = setup_of c t in
+    let now = other-left c t e.stops r.schedulers.items (start e) stand (left_after e [])
+    (λ k. less-none (e.stops (k + 1))) in
     record {
       config = config;
       trace = trace;
       shared = shares;
-      schedulers = other-left c t e.stops r.schedulers.items (start e) stand (left_after e [])
-          (λ k. less-none (e.stops (k + 1)));
+      schedulers = now;
+      left = left-work c t [] r shares now;
     }
 
 -- what is printed of it
@@ -183,26 +216,3 @@ run-stands r c t turns at =
     (sym at.config)
     (subst (λ x. StandIn c x r.schedulers.items places r.shared.given taken) (sym at.trace)
     (stand-in c t r.schedulers.items r.shared turns at.shared at.schedulers))
-
-got : {A : Type 0} (P : Option A → Type 0) (xs : List A) (i : ℕ) → i < length xs
-    → ((d : A) → P (Some (get_or xs i d))) → P (slice_get xs i)
-got P [] i below each = absurd (omega (arith, below))
-got P (x ∷ xs) zero below each = each x
-got P (x ∷ xs) (suc i) below each = got P xs i (omega (arith, below)) each
-
--- the work that a scheduler has left, as its fields tell it
-pub left-work : (c : Config) (t : Trace) (turns : List ℕ) (r : GivenRun) → StandsAfter c t turns r
-    → (me : ℕ) → IsScheduler c.schedulers me
-    → left_in me r ≡ work (setup_of c t) (run_with_stops (setup_of c t) turns) me
-left-work c t turns r at me has =
-    let e = setup_of c t in
-    let place : (me - 1) + 1 ≡ me = omega (arith, has.0) in
-    let below : me - 1 < length r.schedulers.items =
-    omega (arith, has.0, has.1, at.schedulers.all) in
-    got (λ o. left_to o r.shared ≡ work e (run_with_stops e turns) me) r.schedulers.items (me - 1)
-    below
-    (λ d.
-    let mate = get_or r.schedulers.items (me - 1) d in
-    sym (work-is c t me (left_after e turns me) mate (run_with_stops e turns)
-    (subst (λ i. StandsAt c t i (left_after e turns i) mate (run_with_stops e turns)) place
-    (at.schedulers.each (me - 1) d below)) r.shared at.shared))

@@ -7,7 +7,7 @@ use Rattle.ea_model.specs.declared.settings.Config.{Config}
 use Rattle.ea_model.specs.declared.trace.Trace.{Trace}
 use Rattle.ea_model.specs.declared.units.TheConstants.{PAGE_UNITS}
 use Rattle.ea_model.specs.Trace.{IsScheduler}
-use Rattle.ea_machine.specs.Completion.{complete}
+use Rattle.ea_machine.specs.Completion.{complete, work}
 use Rattle.ea_machine.specs.Nodes.{named_at, spot_named}
 use Rattle.ea_machine.specs.Setup.{Setup, setup_of}
 use Rattle.ea_machine.specs.State.{State}
@@ -16,14 +16,20 @@ use Rattle.ea_sound.specs.Turns.{is_ended}
 use Rattle.ea_given.specs.declared.run.GivenRun.{GivenRun}
 use Rattle.ea_given.specs.Running.{AllStandAt, SharesAt, left_to}
 
+-- the steps that are left to the scheduler of that number, at most, if no other one steps
+abbrev pub left_in : ℕ → GivenRun → ℕ
+left_in me run = left_to (slice_get run.schedulers.items (me - 1)) run.shared
+
 -- it is the run of the trace as it stands after these turns, of which each scheduler takes those up
--- to its stop
+-- to its stop; the steps that are left to each, at most, are those that the machine counts
 pub record StandsAfter (c : Config) (t : Trace) (turns : List ℕ) (run : GivenRun) : Type 0 where
   pub config : run.config ≡ c
   pub trace : run.trace.now ≡ t
   pub shared : SharesAt c t run.shared (run_with_stops (setup_of c t) turns)
   pub schedulers : AllStandAt c t (left_after (setup_of c t) turns) run.schedulers.items
       (run_with_stops (setup_of c t) turns)
+  pub left : (me : ℕ) → IsScheduler c.schedulers me
+      → left_in me run ≡ work (setup_of c t) (run_with_stops (setup_of c t) turns) me
 
 -- it is some run of a valid trace, after some turns
 abbrev pub IsRun : GivenRun → Type 0
@@ -71,10 +77,6 @@ spot_after setup turns me name = spot_named name ((run_with_stops setup turns).a
 abbrev pub holds_after : Setup → List ℕ → ℕ → ℕ → Bool
 holds_after setup turns me name =
     is_some (named_at name ((run_with_stops setup turns).actors me).held)
-
--- the steps that are left to the scheduler of that number, at most, if no other one steps
-abbrev pub left_in : ℕ → GivenRun → ℕ
-left_in me run = left_to (slice_get run.schedulers.items (me - 1)) run.shared
 
 -- these are units of the super carrier, and at least one
 abbrev pub FitsSuperCarrier : Setup → Extent → Type 0

@@ -22,7 +22,6 @@ use Rattle.ea_given.specs.declared.run.GivenRun.{GivenRun}
 use Rattle.ea_given.specs.Runs.{HasScheduler, HasTaken, IsRun, StandsAfter, StaysInOperation}
 use Rattle.ea_given.specs.Runs.{Tells, done_after, ended_after, left_in, log_length}
 use Rattle.ea_sound.proofs.Stopping.{cut-none}
-use Rattle.ea_given.proofs.GivenRuns.{left-work}
 use Rattle.ea_recorded.specs.Order.{is_over, line_turns, operating, turns_in_order}
 use Rattle.ea_recorded.specs.Running.{HasRun, HasRunAll, IsUnstopped}
 
@@ -194,7 +193,7 @@ module _ (c : Config) (t : Trace) (config : IsValidConfig c)
       left-is has =
           let there : IsScheduler c.schedulers me =
           (has.0, omega (arith, has.1, ap (λ (x : Config). x.schedulers) at.config)) in
-          left-work c t turns r at me there
+          at.left me there
           ∙ ap (λ (w : State). work e w me) (all-taken turns)
 
 -- a run goes on with a line

@@ -14,7 +14,6 @@ use Rattle.ea_machine.specs.State.{State}
 use Rattle.ea_sound.proofs.Schedules.{turns-more, turns_from}
 use Rattle.ea_given.specs.Runs as one
 use Rattle.ea_given.specs.Runs.{left_in}
-use Rattle.ea_given.proofs.GivenRuns.{left-work}
 use Rattle.ea_types.specs.declared.given.TypedRun.{TypedRun}
 use Rattle.ea_types.specs.Courses.{types_of}
 use Rattle.ea_types.specs.Given.{HasNone, HasScheduler, HasTaken, IsEnding, IsRun}
@@ -233,7 +232,7 @@ left-is c other traces parts turns r at me has =
     let mine = at.runs x d there in
     let here : 0 + x ≡ x = omega arith in
     let is : IsScheduler c.schedulers me = (has.0, omega (arith, has.1, at.schedulers)) in
-    left-work c (get_or traces x other) (own_turns t x turns) u mine me is
+    mine.left me is
     ∙ ap (λ (w : State). work (t.setups x) w me) (state-is c other traces parts turns r at x there)
     ∙ ap g (sym here))
     ∙ ap (λ n. sum_by g (range_with_len 0 n)) at.types
