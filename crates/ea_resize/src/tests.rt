@@ -1,7 +1,8 @@
 //! Each line of the decision, and each of its borders from both sides.
 use crate::decide;
 use ea_model::Decision::{GrowHere, Move, ShrinkCarrier, ShrinkHere, Stay};
-use ea_model::{Decision, MAX_UNITS, Settings, Strategy, Where};
+use ea_model::units::MAX_UNITS;
+use ea_model::{Decision, Settings, Strategy, Where};
 
 // A block above 65536 units has a singleblock carrier.
 const SETTINGS: Settings = Settings {
