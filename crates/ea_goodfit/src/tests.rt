@@ -1,6 +1,6 @@
 //! Worked examples.
 ghost use Rattle.std.specs.Prelude.{◌≡◌, ◌+◌, ◌^◌, ◌<◌, ◌≤◌, [], ◌∷◌, AllPairs, IfOk, OnOk};
-ghost use Rattle.ea_model.specs.Keyed.{item_at};
+ghost use Rattle.ea_model.specs.Keyed.{entered, item_at};
 ghost use Rattle.ea_goodfit.specs.Gaps.{address_of, IsBelow};
 
 use crate::{BinnedGap, Bins, Fit};
@@ -208,6 +208,15 @@ fn gap_at(address: u32, gaps: &[BinnedGap]) -> Option<BinnedGap>
     ensures { result ≡ item_at address_of gaps.now address }
 {
     Some(*item_of(address, gaps)?)
+}
+
+/// Puts the gap into the list, by its address.
+fn enter(gap: BinnedGap, gaps: &mut Vec<BinnedGap>) -> Result<(), OutOfMemory>
+    ensures { OnOk result (gaps.new.items ≡ entered address_of gap gaps.old.items) }
+{
+    gaps.reserve(1)?;
+    enter_within(gap, gaps);
+    Ok(())
 }
 
 /// Takes the gap at the address out of the bins and of a plain list, or puts one of that size there
