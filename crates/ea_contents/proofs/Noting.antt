@@ -3,14 +3,14 @@ use Rattle.std.proofs.Common.{◌≡◌, ℕ, zero, suc, ◌+◌, ◌<◌, ◌�
 use Rattle.std.proofs.Common.{if◌then◌else◌, List, [], ◌∷◌, ◌++◌, Option, Some, None}
 use Rattle.std.proofs.Common.{is_some, length, map, refl, sym, ap, subst, ◌∙◌, append_assoc}
 use Rattle.std.proofs.Common.{arith}
-use Rattle.std.specs.Prelude.{All, bytes_eq, codes, nat_lt}
+use Rattle.std.specs.Prelude.{All, bytes_eq, codes, nat_lt, option_to_list}
 use Rattle.std.proofs.lemmas.List.{length-map, length-reverse, length-set}
 use Rattle.ea_model.specs.Trace.{IsScheduler}
 use Rattle.ea_trace.specs.Between.{earlier_of, in_section, is_opening}
 use Rattle.ea_trace.specs.Language.{Earlier, LineWords, WordLines, is_held, section_operations}
 use Rattle.ea_trace.specs.Language.{no_stops, sections, stage_after, stops_after}
 use Rattle.ea_trace.specs.Lines.{line_of_words}
-use Rattle.ea_contents.specs.Language.{access_in, accesses_from, and_line, as_list, blanked}
+use Rattle.ea_contents.specs.Language.{access_in, accesses_from, and_line, blanked}
 use Rattle.ea_contents.specs.Language.{first_so, is_access, is_misplaced, is_unheld, name_of}
 use Rattle.ea_contents.specs.Language.{read_in, write_in}
 use Rattle.ea_contents.specs.Reading.{AddsTo, Finds, Found, Places, Stand, first_of, lists_of}
@@ -45,7 +45,7 @@ first-later : (is : Earlier → LineWords → Bool) (earlier : Earlier) (l : Lin
     → first_so is earlier (l ∷ left) ≡ first_so is (and_line earlier l) left
 first-later is earlier l left e = rw e refl
 
-none-if : (b : Bool) (rest : List Access) → (if b then as_list None else []) ++ rest ≡ rest
+none-if : (b : Bool) (rest : List Access) → (if b then option_to_list None else []) ++ rest ≡ rest
 none-if true rest = refl
 none-if false rest = refl
 
@@ -180,8 +180,8 @@ module _ (n : ℕ) (all : WordLines) (earlier : Earlier) (l : LineWords) (left :
   is-added : new ≡ added (sections earlier) placed old
   is-added = places.added within
 
-  list-is : (c : Bool) → (if c then as_list (access_in l) else []) ≡ only_if c access
-  list-is true = ap as_list says
+  list-is : (c : Bool) → (if c then option_to_list (access_in l) else []) ≡ only_if c access
+  list-is true = ap option_to_list says
   list-is false = refl
 
   script-noted : (i d : ℕ) → accesses_from [] all i d

@@ -4,6 +4,7 @@ use Rattle.std.specs.Prelude.{ℕ, ◌+◌, ◌-◌, ◌^◌, Bool, true, false,
 use Rattle.std.specs.Prelude.{if◌then◌else◌, List, [], ◌∷◌, ◌++◌}
 use Rattle.std.specs.Prelude.{Option, Some, None, Result, Ok, Err}
 use Rattle.std.specs.Prelude.{bytes_eq, codes, is_some, length, map, option_and_then}
+use Rattle.std.specs.Prelude.{option_to_list}
 use Rattle.ea_model.specs.declared.settings.Config.{Config}
 use Rattle.ea_model.specs.declared.trace.Trace.{Trace}
 use Rattle.ea_model.specs.Trace.{is_scheduled}
@@ -70,15 +71,11 @@ first_so is earlier (l ∷ ls) = if is earlier l then Some (length earlier + 1)
     else first_so is (and_line earlier l) ls
 
 -- the writes and reads of scheduler i that stand after its first d operations, in order
-abbrev pub as_list : Option Access → List Access
-as_list None = []
-as_list (Some a) = a ∷ []
-
 abbrev pub accesses_from : Earlier → WordLines → Script
 accesses_from earlier [] i d = []
 accesses_from earlier (l ∷ ls) i d =
     (if (sections earlier == i) && (length (section_operations earlier) == d)
-    then as_list (access_in l) else [])
+    then option_to_list (access_in l) else [])
     ++ accesses_from (and_line earlier l) ls i d
 
 -- what an input asks for: its trace, and its writes and reads

@@ -2,7 +2,7 @@
 use Rattle.std.proofs.Common.{◌≡◌, ◌≢◌, ℕ, suc, ◌+◌, ◌<◌, ◌++◌, Bool, true, false, List, [], ◌∷◌}
 use Rattle.std.proofs.Common.{Option, Some, None, Ok, Err, bytes_eq, codes, is_some, length, map, refl}
 use Rattle.std.proofs.Common.{sym, ap, subst, ◌∙◌, if◌then◌else◌, arith}
-use Rattle.std.specs.Prelude.{All, unwrap_or, ◌&&◌, ◌||◌, not}
+use Rattle.std.specs.Prelude.{All, option_to_list, unwrap_or, ◌&&◌, ◌||◌, not}
 use Rattle.std.specs.List.{AllByRecursion}
 use Rattle.std.specs.Option.{option_and_then, option_map}
 use Rattle.std.proofs.lemmas.List.Elements.{All-from_recursion, recursion_from_All}
@@ -25,7 +25,7 @@ use Rattle.ea_trace.specs.declared.keywords.Keyword.TheVariants as keyword
 use Rattle.ea_trace.specs.declared.lines.Line.TheVariants as line
 use Rattle.ea_types.specs.Courses.{AreParts}
 use Rattle.ea_types.specs.Input.{AreGiven, AreUnstopped}
-use Rattle.ea_types.specs.Language.{Answers, and_trace, as_list, before_first, begins, from_first}
+use Rattle.ea_types.specs.Language.{Answers, and_trace, before_first, begins, from_first}
 use Rattle.ea_types.specs.Language.{inside_after, is_barred, own_place, parts_of, place_in}
 use Rattle.ea_types.specs.Language.{places_in}
 use Rattle.ea_types.specs.Language.{is_letter_of, is_own, is_skipped, is_wrong, left_of, left_on}
@@ -284,7 +284,7 @@ abbrev pub IsPlaceIn : List Letter → ℕ → Type 0
 IsPlaceIn types x = x < length types
 
 place-listed : (types : List Letter) (w : List ℕ) (o : Option ℕ) → place_in types w ≡ o
-    → AllByRecursion (IsPlaceIn types) (as_list o)
+    → AllByRecursion (IsPlaceIn types) (option_to_list o)
 place-listed types w None e = tt
 place-listed types w (Some k) e =
     let f = found-at (λ x. bytes_eq w (letter_word x)) 0 k types B e in
@@ -296,7 +296,7 @@ own-placed types inside [] = tt
 own-placed types inside (w ∷ ws) = by (is_own inside (w ∷ ws))
   where
     by : (b : Bool) → AllByRecursion (IsPlaceIn types)
-        (if b then as_list (place_in types w) else [])
+        (if b then option_to_list (place_in types w) else [])
     by true = place-listed types w (place_in types w) refl
     by false = tt
 

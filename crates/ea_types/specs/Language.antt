@@ -3,6 +3,7 @@
 use Rattle.std.specs.Prelude.{◌≡◌, ℕ, ◌+◌, ◌*◌, nat_le, nat_lt, Bool, true, false, ◌&&◌, ◌||◌, not}
 use Rattle.std.specs.Prelude.{if◌then◌else◌, List, [], ◌∷◌, ◌++◌, Option, None, Some, Result, Ok}
 use Rattle.std.specs.Prelude.{Err, All, bytes_eq, codes, is_some, length, option_and_then}
+use Rattle.std.specs.Prelude.{option_to_list}
 use Rattle.std.specs.List.{position_from}
 use Rattle.ea_model.specs.declared.settings.Config.{Config}
 use Rattle.ea_model.specs.declared.settings.Letter.{Letter}
@@ -207,15 +208,11 @@ types_of ls = types_from (from_first ls)
 
 -- whose operation each line of a section is
 
-abbrev pub as_list : Option ℕ → List ℕ
-as_list None = []
-as_list (Some k) = k ∷ []
-
 -- the place of the type of an operation line among these, from 0
 abbrev pub own_place : List Letter → Bool → LineWords → List ℕ
 own_place types inside [] = []
 own_place types inside (w ∷ ws) = if is_own inside (w ∷ ws)
-    then as_list (place_in types w) else []
+    then option_to_list (place_in types w) else []
 
 -- whether a line begins a section
 abbrev pub begins_by : Option Keyword → Bool
