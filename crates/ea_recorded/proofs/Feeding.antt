@@ -24,7 +24,7 @@ use Rattle.ea_trace.specs.Language.{Answer, Gives, addressed_or, at_end, is_unad
 use Rattle.ea_trace.specs.Language.{letter_after, mode_after, read_after, refusal, refused_or}
 use Rattle.ea_trace.specs.Language.{stage_after, stops_after, takes_in, trace_from, trace_of}
 use Rattle.ea_trace.specs.Language.{turns_after, with_turns}
-use Rattle.ea_trace.specs.Lines.{Said, line_of_words}
+use Rattle.ea_trace.specs.Lines.{Said, line_of_words, type_line}
 use Rattle.ea_trace.specs.declared.fault.TraceFault.{TraceFault}
 use Rattle.ea_trace.specs.declared.lines.Line.TheVariants as said
 use Rattle.ea_trace.specs.declared.stages.Stage.{Stage}
@@ -34,7 +34,7 @@ use Rattle.ea_trace.proofs.Ranges.{words_ranges}
 use Rattle.ea_trace.specs.Ranges.{HasRanges, InRange}
 use Rattle.ea_recorded.specs.Language.{Placed, Told, answer_in, end_line, is_of, own_of, placed}
 use Rattle.ea_recorded.specs.Language.{schedule_line, section, section_line, sections, trace_lines}
-use Rattle.ea_recorded.specs.Language.{type_line, unplaced, words_of}
+use Rattle.ea_recorded.specs.Language.{unplaced, words_of}
 use Rattle.ea_recorded.specs.Told.{AreTold, IsSaid}
 use Rattle.ea_recorded.specs.declared.lines.OwnLine.{OwnLine}
 

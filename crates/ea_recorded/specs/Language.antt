@@ -7,7 +7,7 @@ use Rattle.ea_model.specs.declared.settings.Letter.{Letter}
 use Rattle.ea_model.specs.declared.trace.Trace.{Trace}
 use Rattle.ea_trace.specs.Language.{Answer, LineWords, WordLines, gives_outside, is_outside}
 use Rattle.ea_trace.specs.Language.{lines_of, trace_of}
-use Rattle.ea_trace.specs.Lines.{Said, letter_word, line_of_words, scheduler_in}
+use Rattle.ea_trace.specs.Lines.{Said, line_of_words, scheduler_in, type_line}
 use Rattle.ea_trace.specs.declared.fault.TraceFault.{TraceFault}
 use Rattle.ea_trace.specs.declared.fault.TraceFault.TheVariants as fault
 use Rattle.ea_trace.specs.declared.lines.Line.TheVariants as said
@@ -98,9 +98,6 @@ unplaced ws = record { number = 0; words = ws }
 
 abbrev pub placed : Told → Placed
 placed t = record { number = t.own.number; words = t.words }
-
-abbrev pub type_line : Letter → LineWords
-type_line x = codes "type" ∷ letter_word x ∷ []
 
 abbrev pub section_line : ℕ → LineWords
 section_line me = codes "scheduler" ∷ decimal me ∷ []

@@ -129,6 +129,10 @@ letter_word letter.R = codes "R"
 letter_word letter.S = codes "S"
 letter_word letter.T = codes "T"
 
+-- the words of the line of a letter
+abbrev pub type_line : Letter → List (List ℕ)
+type_line x = codes "type" ∷ letter_word x ∷ []
+
 abbrev pub all_letters : List Letter
 all_letters = letter.B ∷ letter.D ∷ letter.E ∷ letter.H ∷ letter.L ∷ letter.R ∷ letter.S
     ∷ letter.T ∷ []

@@ -11,14 +11,14 @@ use Rattle.ea_model.specs.declared.settings.Config.{Config}
 use Rattle.ea_model.specs.declared.settings.Letter.{Letter}
 use Rattle.ea_model.specs.declared.settings.Letter.TheVariants.{B, D, E, H, L, R, S, T}
 use Rattle.ea_trace.specs.Language.{LineWords, WordLines}
-use Rattle.ea_trace.specs.Lines.{is_comment, keyword_in, line_of_words}
+use Rattle.ea_trace.specs.Lines.{is_comment, keyword_in, line_of_words, type_line}
 use Rattle.ea_trace.specs.Taken.{HasTaken}
 use Rattle.ea_trace.specs.declared.lines.Line.TheVariants as line
 use Rattle.ea_trace.specs.declared.reader.TraceReader.{TraceReader}
 use Rattle.ea_types.specs.Language.{AreSkipped, are_types, before_first, begins, begins_by}
 use Rattle.ea_types.specs.Language.{from_first}
 use Rattle.ea_types.specs.Language.{is_skipped, left_on, letters_in, parts_of}
-use Rattle.ea_types.specs.Language.{projection_from, read_rest, traces_of, type_line, types_in}
+use Rattle.ea_types.specs.Language.{projection_from, read_rest, traces_of, types_in}
 use Rattle.ea_types.specs.Language.{types_of, wrong_at}
 use Rattle.ea_types.specs.Reading.{BeginsWith, whole_of}
 

@@ -31,7 +31,7 @@ use Rattle.ea_trace.specs.Lines.{Said, alloc_in, bare, command, command_of, free
 use Rattle.ea_trace.specs.Lines.{is_comment, keyword_in, kind_in, letter_in, letter_line}
 use Rattle.ea_trace.specs.Lines.{letter_word, line_of_words, one_of, only_word, operation_in}
 use Rattle.ea_trace.specs.Lines.{realloc_in, scheduler_in, section_line, take_in, turns_in}
-use Rattle.ea_trace.specs.Lines.{turns_line}
+use Rattle.ea_trace.specs.Lines.{turns_line, type_line}
 use Rattle.ea_trace.specs.declared.fault.TraceFault.{TraceFault}
 use Rattle.ea_trace.specs.declared.keywords.Keyword.{Keyword}
 use Rattle.ea_trace.specs.declared.keywords.Keyword.TheVariants as keyword
@@ -44,7 +44,7 @@ use Rattle.ea_types.specs.Language.{are_different, before_first, begins, begins_
 use Rattle.ea_types.specs.Language.{inside_by, is_barred, is_border, is_letter_of, is_own}
 use Rattle.ea_types.specs.Language.{is_skipped, is_wrong, left_of, left_on, names_operation}
 use Rattle.ea_types.specs.Language.{parts_of, place_in, places_in, projection, traces_by}
-use Rattle.ea_types.specs.Language.{type_line, types_in, types_of, wrong_at}
+use Rattle.ea_types.specs.Language.{types_in, types_of, wrong_at}
 use Rattle.ea_types.specs.Readers.{TypeLines}
 use Rattle.ea_types.proofs.Beginning.{before-skipped, comment-keyword, parts-first, skipped-line}
 use Rattle.ea_types.proofs.Beginning.{type-said, types-found}

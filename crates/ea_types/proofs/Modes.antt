@@ -19,12 +19,12 @@ use Rattle.ea_trace.specs.Language.{trace_of}
 use Rattle.ea_trace.specs.Language.{turns_after, with_turns}
 use Rattle.ea_trace.specs.Lines.{Said, alloc_in, free_in, give_in}
 use Rattle.ea_trace.specs.Lines.{keyword_in, kind_in, letter_word, line_of_words, one_of}
-use Rattle.ea_trace.specs.Lines.{realloc_in, take_in}
+use Rattle.ea_trace.specs.Lines.{realloc_in, take_in, type_line}
 use Rattle.ea_types.specs.Input.{HaveOneMode}
 use Rattle.ea_types.specs.Language.{Answers, and_trace, before_first, from_first, inside_after}
 use Rattle.ea_types.specs.Language.{is_barred, is_letter_of, is_own, is_wrong, left_of, left_on}
 use Rattle.ea_types.specs.Language.{names_operation, projection, projection_from, traces_by}
-use Rattle.ea_types.specs.Language.{type_line, wrong_at}
+use Rattle.ea_types.specs.Language.{wrong_at}
 use Rattle.ea_types.proofs.Steps.{common-left, fine-more, own-words, wrong-here}
 use Rattle.ea_trace.specs.declared.fault.TraceFault.{TraceFault}
 use Rattle.ea_trace.specs.declared.keywords.OpKind.{OpKind}

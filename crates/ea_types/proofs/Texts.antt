@@ -18,14 +18,14 @@ use Rattle.ea_trace.specs.Language.{with_turns}
 use Rattle.ea_trace.specs.Lines.{Said, bare, command, command_of, is_comment, keyword_in, letter_in}
 use Rattle.ea_trace.specs.Lines.{letter_line, letter_word, line_of_words, one_of, only_word}
 use Rattle.ea_trace.specs.Lines.{operation_in}
-use Rattle.ea_trace.specs.Lines.{scheduler_in, section_line, turns_in}
+use Rattle.ea_trace.specs.Lines.{scheduler_in, section_line, turns_in, type_line}
 use Rattle.ea_trace.specs.declared.keywords.Keyword.{Keyword}
 use Rattle.ea_trace.specs.declared.keywords.Keyword.TheVariants as keyword
 use Rattle.ea_trace.specs.declared.lines.Line.TheVariants as line
 use Rattle.ea_types.specs.Input.{HaveTexts}
 use Rattle.ea_types.specs.Language.{before_first, is_barred, is_own, is_skipped, is_wrong, left_of}
 use Rattle.ea_types.specs.Language.{inside_after, is_letter_of, left_on, names_operation}
-use Rattle.ea_types.specs.Language.{projection, traces_by, type_line, wrong_at}
+use Rattle.ea_types.specs.Language.{projection, traces_by, wrong_at}
 use Rattle.ea_types.proofs.Beginning.{before-skipped, skipped-line, type-said}
 use Rattle.ea_types.proofs.Modes.{AreFine, IsQuiet, all_lines, fine-line, named-own}
 use Rattle.ea_types.proofs.Modes.{parted}

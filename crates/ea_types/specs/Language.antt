@@ -11,6 +11,7 @@ use Rattle.ea_model.specs.declared.trace.Trace.{Trace}
 use Rattle.ea_model.specs.declared.units.TheConstants.{MAX_MEGABYTES}
 use Rattle.ea_trace.specs.Language.{Answer, LineWords, WordLines, lines_of, trace_of}
 use Rattle.ea_trace.specs.Lines.{is_comment, keyword_in, kind_in, letter_in, letter_word}
+use Rattle.ea_trace.specs.Lines.{type_line}
 use Rattle.ea_trace.specs.declared.fault.TraceFault.{TraceFault}
 use Rattle.ea_trace.specs.declared.fault.TraceFault.TheVariants as fault
 use Rattle.ea_types.specs.declared.input.TheConstants.{MAX_TYPES}
@@ -137,9 +138,6 @@ left_of x inside (w ∷ ws) = if is_own inside (w ∷ ws)
 abbrev pub left_on : Letter → Bool → WordLines → WordLines
 left_on x inside [] = []
 left_on x inside (l ∷ ls) = left_of x inside l ∷ left_on x (inside_after inside l) ls
-
-abbrev pub type_line : Letter → LineWords
-type_line x = codes "type" ∷ letter_word x ∷ []
 
 -- the same from the first line that isn't skipped, which becomes that of the type
 abbrev pub projection_from : Letter → WordLines → WordLines

@@ -8,11 +8,11 @@ use Rattle.ea_model.specs.Trace.{plain}
 use Rattle.ea_model.specs.declared.settings.Letter.{Letter}
 use Rattle.ea_model.specs.declared.trace.Trace.{Trace}
 use Rattle.ea_trace.specs.Language.{LineWords, WordLines}
-use Rattle.ea_trace.specs.Lines.{letter_word}
+use Rattle.ea_trace.specs.Lines.{letter_word, type_line}
 use Rattle.ea_trace.specs.Taken.{HasTaken, lines_taken}
 use Rattle.ea_trace.specs.declared.fault.TraceFault.{TraceFault}
 use Rattle.ea_trace.specs.declared.fault.TraceFault.TheVariants.{OutOfMemory}
-use Rattle.ea_types.specs.Language.{Answers, type_line}
+use Rattle.ea_types.specs.Language.{Answers}
 use Rattle.ea_types.specs.declared.type_reader.TypeReader.{TypeReader}
 
 -- the lines of each type

@@ -5,11 +5,11 @@ use Rattle.std.specs.Option.{option_map_or}
 use Rattle.ea_model.specs.Words.{words}
 use Rattle.ea_model.specs.declared.settings.Letter.{Letter}
 use Rattle.ea_trace.specs.Language.{WordLines}
+use Rattle.ea_trace.specs.Lines.{type_line}
 use Rattle.ea_trace.specs.declared.fault.TraceFault.{TraceFault}
 use Rattle.ea_trace.specs.declared.fault.TraceFault.TheVariants as fault
 use Rattle.ea_frame.specs.Lines.{rest_lines}
 use Rattle.ea_types.specs.Language.{before_first, from_first, left_on, parts_of, projection}
-use Rattle.ea_types.specs.Language.{type_line}
 use Rattle.ea_types.specs.Language.{wrong_at}
 use Rattle.ea_types.specs.Readers.{HasRead, TypeLines, letters_of}
 use Rattle.ea_types.specs.Sections.{AreParts}

@@ -1,7 +1,8 @@
 use Rattle.std.proofs.Common.{◌≡◌, List, [], ◌∷◌, ◌++◌, refl, subst, arith}
 use Rattle.std.proofs.lemmas.List.{append_assoc}
+use Rattle.ea_trace.specs.Lines.{type_line}
 use Rattle.ea_recorded.specs.Language.{Placed, end_line, schedule_line, sections, trace_lines}
-use Rattle.ea_recorded.specs.Language.{type_line, unplaced}
+use Rattle.ea_recorded.specs.Language.{unplaced}
 use Rattle.ea_recorded.specs.Told.{AreTold, HasLines, ToldLines}
 use Rattle.ea_recorded.proofs.Feeding.{all-texts, all-unstopped, front-more, type-said}
 use Rattle.ea_recorded.proofs.sections.trace_of_lines.Goals as goal

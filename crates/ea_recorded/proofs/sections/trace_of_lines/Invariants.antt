@@ -1,6 +1,7 @@
 use Rattle.std.proofs.Common.{◌+◌, ◌*◌, ◌≤◌, ◌∷◌}
+use Rattle.ea_trace.specs.Lines.{type_line}
 use Rattle.ea_trace.specs.Taken.{lines_taken}
-use Rattle.ea_recorded.specs.Language.{sections, type_line, unplaced}
+use Rattle.ea_recorded.specs.Language.{sections, unplaced}
 use Rattle.ea_recorded.specs.Told.{AreTold, HasLines, ToldLines}
 use Rattle.ea_recorded.proofs.sections.trace_of_lines.Given as goal
 

@@ -1,5 +1,6 @@
 use Rattle.std.proofs.Common.{false, [], ◌∷◌, length-append, ap, refl, ◌∙◌, arith}
-use Rattle.ea_types.specs.Language.{type_line, wrong_at}
+use Rattle.ea_trace.specs.Lines.{type_line}
+use Rattle.ea_types.specs.Language.{wrong_at}
 use Rattle.ea_types.specs.Readers.{begun_with}
 use Rattle.ea_types.proofs.reader.Reading.new.Goals as goal
 

@@ -1,7 +1,7 @@
 use Rattle.std.proofs.Common.{◌≡◌, ◌+◌, take, sym, ap, subst, ◌∙◌, arith}
 use Rattle.std.proofs.lemmas.List.{take_all}
+use Rattle.ea_trace.specs.Lines.{type_line}
 use Rattle.ea_trace.specs.Taken.{HasTaken}
-use Rattle.ea_types.specs.Language.{type_line}
 use Rattle.ea_types.proofs.Beginning.{skipped-more, type-said}
 use Rattle.ea_types.proofs.type_reader.TypeReader.new.Goals as goal
 
