@@ -3,15 +3,14 @@ use Rattle.std.proofs.Common.{◌≡◌, ℕ, zero, suc, ◌+◌, ◌++◌, List
 use Rattle.std.proofs.Common.{map, refl, sym, ap, ◌∙◌}
 use Rattle.std.specs.Prelude.{codes, decimal}
 use Rattle.std.specs.List.{flat_map, range_with_len}
-use Rattle.std.proofs.lemmas.List.{map-id}
-use Rattle.std.proofs.lemmas.Simd.{map-map}
 use Rattle.ea_model.specs.declared.outcome.Outcome.{Outcome}
 use Rattle.ea_model.specs.declared.settings.Config.{Config}
 use Rattle.ea_model.specs.declared.trace.Mode.{Mode}
 use Rattle.ea_model.specs.declared.trace.Mode.TheVariants.{Threads, Schedule, Generated}
 use Rattle.ea_model.specs.declared.trace.Trace.{Trace}
-use Rattle.ea_model.specs.Outcome.{logs_of, plain_outcome}
-use Rattle.ea_model.specs.Trace.{IsValidTrace, listed, plain, plain_mode}
+use Rattle.ea_model.specs.Outcome.{plain_outcome}
+use Rattle.ea_model.specs.Trace.{IsValidTrace, plain, plain_mode}
+use Rattle.ea_model.proofs.Outcomes.{same-logs}
 use Rattle.ea_machine.specs.Completion.{turns_in}
 use Rattle.ea_machine.specs.Setup.{setup_of}
 use Rattle.ea_sound.proofs.Plain.{same-setup, valid-plain}
@@ -26,9 +25,6 @@ same-turns : (m : Mode) → turns_in (plain_mode m) ≡ turns_in m
 same-turns Threads = refl
 same-turns (Schedule turns) = refl
 same-turns (Generated seed count) = refl
-
-same-logs : (o : Outcome) → logs_of (plain_outcome o) ≡ logs_of o
-same-logs o = map-map (λ log. log.items) listed (logs_of o) ∙ map-id (logs_of o)
 
 same-text : (o : Outcome) → outcome_text o ≡ outcome_text (plain_outcome o)
 same-text o = rw (same-logs o) refl

@@ -6,6 +6,7 @@ pub mod NumberedItems
 pub mod Numbers
 pub mod Options
 pub mod Orders
+pub mod Outcomes
 pub mod Pairs
 pub mod Powers
 pub mod Rising

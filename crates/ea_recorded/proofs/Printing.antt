@@ -1,21 +1,17 @@
 -- What a definition answers for a trace or an outcome is valid and has the same text.
 use Rattle.std.proofs.Common.{◌≡◌, ℕ, List, refl, sym, ap, ◌∙◌}
-use Rattle.std.proofs.lemmas.List.{map-id}
-use Rattle.std.proofs.lemmas.Simd.{map-map}
 use Rattle.ea_model.specs.declared.outcome.Outcome.{Outcome}
 use Rattle.ea_model.specs.declared.settings.Config.{Config}
 use Rattle.ea_model.specs.declared.trace.Trace.{Trace}
-use Rattle.ea_model.specs.Outcome.{logs_of, plain_outcome}
-use Rattle.ea_model.specs.Trace.{IsValidTrace, listed, plain}
+use Rattle.ea_model.specs.Outcome.{plain_outcome}
+use Rattle.ea_model.specs.Trace.{IsValidTrace, plain}
+use Rattle.ea_model.proofs.Outcomes.{same-logs}
 use Rattle.ea_machine.specs.Outcome.{outcome}
 use Rattle.ea_machine.specs.Setup.{setup_of}
 use Rattle.ea_sound.proofs.Plain.{same-setup, valid-plain}
 use Rattle.ea_report.specs.Text.{outcome_text}
 use Rattle.ea_recorded.specs.Order.{recorded_turns}
 use Rattle.ea_recorded.specs.Output.{IsRecordedText}
-
-same-logs : (o : Outcome) → logs_of (plain_outcome o) ≡ logs_of o
-same-logs o = map-map (λ log. log.items) listed (logs_of o) ∙ map-id (logs_of o)
 
 same-text : (o : Outcome) → outcome_text o ≡ outcome_text (plain_outcome o)
 same-text o = rw (same-logs o) refl

@@ -1,15 +1,14 @@
 -- What a definition answers for a trace or an outcome has the same text.
 use Rattle.std.proofs.Common.{◌≡◌, ℕ, List, refl, sym, subst, ap, ◌∙◌}
-use Rattle.std.proofs.lemmas.List.{map-id}
-use Rattle.std.proofs.lemmas.Simd.{map-map}
 use Rattle.ea_model.specs.declared.outcome.Outcome.{Outcome}
 use Rattle.ea_model.specs.declared.settings.Config.{Config}
 use Rattle.ea_model.specs.declared.trace.Mode.{Mode}
 use Rattle.ea_model.specs.declared.trace.Mode.TheVariants.{Threads, Schedule, Generated}
 use Rattle.ea_model.specs.declared.trace.Trace.{Trace}
-use Rattle.ea_model.specs.Outcome.{logs_of, plain_outcome}
+use Rattle.ea_model.specs.Outcome.{plain_outcome}
 use Rattle.ea_model.specs.Settings.{IsValidConfig}
-use Rattle.ea_model.specs.Trace.{IsValidTrace, listed, plain, plain_mode}
+use Rattle.ea_model.specs.Trace.{IsValidTrace, plain, plain_mode}
+use Rattle.ea_model.proofs.Outcomes.{same-logs}
 use Rattle.ea_machine.specs.Completion.{course_of}
 use Rattle.ea_machine.specs.Courses.{IsCourse}
 use Rattle.ea_machine.specs.Outcome.{outcome, outcome_of}
@@ -62,14 +61,11 @@ same_course : (c : Config) (t : Trace) (turns : List ℕ) → IsCourse (run_setu
 same_course c t turns h = subst (λ setup. IsCourse setup (plain_mode t.mode) turns)
     (sym (same_run c t)) (course_mode (run_setup c t) t.mode turns h)
 
-same_logs : (o : Outcome) → logs_of (plain_outcome o) ≡ logs_of o
-same_logs o = map-map (λ log. log.items) listed (logs_of o) ∙ map-id (logs_of o)
-
 -- an outcome has the text that it has as a definition answers it
 same_text : (m : Mode) (o : Outcome) → text_by m o ≡ text_by (plain_mode m) (plain_outcome o)
-same_text Threads o = rw (same_logs o) refl
-same_text (Schedule turns) o = rw (same_logs o) refl
-same_text (Generated seed count) o = rw (same_logs o) refl
+same_text Threads o = rw (same-logs o) refl
+same_text (Schedule turns) o = rw (same-logs o) refl
+same_text (Generated seed count) o = rw (same-logs o) refl
 
 -- the text of an outcome of the run of a trace is one of the trace as a definition answers it
 pub run-text : (c : Config) (t : Trace) (o : Outcome) → IsValidConfig c

@@ -7,8 +7,6 @@ use Rattle.std.specs.List.{AllByRecursion, AllZip}
 use Rattle.std.specs.Option.{option_map_or}
 use Rattle.std.proofs.lemmas.List.{length-map}
 use Rattle.std.proofs.lemmas.List.Elements.{recursion_from_All}
-use Rattle.std.proofs.lemmas.Simd.{map-map}
-use Rattle.std.proofs.lemmas.List.{map-id}
 use Rattle.std.proofs.Math.Path.{fun_ext}
 use Rattle.ea_model.specs.declared.operations.Op.{Op}
 use Rattle.ea_model.specs.declared.outcome.Outcome.{Outcome}
@@ -19,8 +17,9 @@ use Rattle.ea_model.specs.declared.trace.Mode.TheVariants.{Threads, Schedule, Ge
 use Rattle.ea_model.specs.declared.trace.Trace.{Trace}
 use Rattle.ea_model.specs.declared.trace.Turns.{Turns}
 use Rattle.ea_model.specs.Lists.{Items}
-use Rattle.ea_model.specs.Outcome.{logs_of, plain_outcome}
+use Rattle.ea_model.specs.Outcome.{plain_outcome}
 use Rattle.ea_model.specs.Trace.{listed, plain, plain_mode, texts_of}
+use Rattle.ea_model.proofs.Outcomes.{same-logs}
 use Rattle.ea_machine.specs.Outcome.{outcome}
 use Rattle.ea_machine.specs.Setup.{Setup, setup_of}
 use Rattle.ea_sound.proofs.Plain.{same-setup}
@@ -210,7 +209,7 @@ all-parts n (t ∷ ts) first parts e h k =
 -- an outcome has the text that it has as a definition answers it
 
 same-part : (x : Letter) (o : Outcome) → part_text x (plain_outcome o) ≡ part_text x o
-same-part x o = rw (map-map (λ log. log.items) listed (logs_of o) ∙ map-id (logs_of o)) refl
+same-part x o = rw (same-logs o) refl
 
 pub same-text : (letters : List Letter) (os : List Outcome)
     → parts_text letters (map plain_outcome os) ≡ parts_text letters os
