@@ -8,18 +8,16 @@ use Rattle.std.specs.Prelude.{All, IfSome, nat_lt}
 use Rattle.std.proofs.lemmas.List.{length-append, length-map, map-append}
 use Rattle.std.proofs.lemmas.List.Elements.{All-append, All-cons, All-nil}
 use Rattle.ea_model.specs.Trace.{IsScheduler, plain}
-use Rattle.ea_model.specs.Words.{lines, words}
 use Rattle.ea_model.specs.declared.operations.Op.{Op}
 use Rattle.ea_model.specs.declared.operations.Op.TheVariants.{Alloc}
 use Rattle.ea_model.specs.declared.settings.Letter.{Letter}
 use Rattle.ea_model.specs.declared.trace.Trace.{Trace}
 use Rattle.ea_trace.specs.Language.{Answer, Gives, LineWords, WordLines, gives_outside, is_outside}
-use Rattle.ea_trace.specs.Language.{lines_of, trace_of}
+use Rattle.ea_trace.specs.Language.{trace_of}
 use Rattle.ea_trace.specs.Lines.{Said, line_of_words, scheduler_in}
 use Rattle.ea_trace.specs.declared.fault.TraceFault.{TraceFault}
 use Rattle.ea_trace.specs.declared.fault.TraceFault.TheVariants as fault
 use Rattle.ea_trace.specs.declared.lines.Line.TheVariants as said
-use Rattle.ea_frame.specs.Lines.{rest_lines}
 use Rattle.ea_recorded.specs.Input.{GivesInput}
 use Rattle.ea_recorded.specs.Language.{Asked, Told, addressed, after_first, asked_by, is_bad}
 use Rattle.ea_recorded.specs.Language.{line_by, line_of, may_stand, next, operation_by, order_of}
@@ -202,14 +200,7 @@ pub said-told : (ws : LineWords) (l : RecordedLine) (number : ℕ) (told : ToldL
 said-told ws l number told new e are =
     subst (λ k. AreTold (told ++ told_by number ws k) new) e are
 
--- the lines of a text, from its first one
-
-pub lines-first : (text first : List ℕ) (rest : Option (Bor (List ℕ)))
-    → lines text ≡ first ∷ option_map_or (λ r. lines r.now) rest []
-    → lines_of text ≡ words first ∷ rest_lines rest
-lines-first text first None e = ap (map words) e
-lines-first text first (Some r) e = ap (map words) e
-
+-- the rest after a line feed is shorter than what stood before it
 pub fewer-left : (rest : Option (Bor (List ℕ))) (number more size all : ℕ) → more ≡ number + 1
     → IfSome rest (λ r. length r.now < size) → number + size + 1 ≤ all
     → option_map_or (λ r. more + length r.now + 1) rest more ≤ all

@@ -9,14 +9,12 @@ use Rattle.std.specs.Option.{option_and_then, option_map_or}
 use Rattle.std.specs.Prelude.{IfSome}
 use Rattle.std.proofs.lemmas.List.Elements.{All-weaker}
 use Rattle.ea_model.specs.Trace.{IsValidTrace, plain}
-use Rattle.ea_model.specs.Words.{lines, words}
 use Rattle.ea_model.specs.declared.settings.Config.{Config}
 use Rattle.ea_model.specs.declared.settings.Letter.{Letter}
 use Rattle.ea_model.specs.declared.trace.Trace.{Trace}
-use Rattle.ea_trace.specs.Language.{LineWords, WordLines, lines_of}
+use Rattle.ea_trace.specs.Language.{LineWords, WordLines}
 use Rattle.ea_trace.specs.declared.fault.TraceFault.{TraceFault}
 use Rattle.ea_trace.specs.declared.fault.TraceFault.TheVariants as fault
-use Rattle.ea_frame.specs.Lines.{rest_lines}
 use Rattle.ea_types.specs.Courses.{AreParts}
 use Rattle.ea_types.specs.Input.{AreGiven, AreUnstopped}
 use Rattle.ea_types.specs.Input.{AreCounted, GivesAll, HaveOneMode, HaveTexts}
@@ -34,13 +32,6 @@ use Rattle.ea_types.proofs.Modes.{AreFine, one-mode}
 use Rattle.ea_types.proofs.Plain.{all-given, all-unstopped, are-parts, count-all}
 use Rattle.ea_types.proofs.Texts.{all-texts}
 use Rattle.ea_types.proofs.Traces.{traces_same}
-
--- the lines of what is left of a text begin with its first line
-pub lines-first : (text first : List ℕ) (rest : Option (Bor (List ℕ)))
-    → lines text ≡ first ∷ option_map_or (λ r. lines r.now) rest []
-    → lines_of text ≡ words first ∷ rest_lines rest
-lines-first text first None e = ap (map words) e
-lines-first text first (Some r) e = ap (map words) e
 
 -- the rest after a line feed is shorter than what stood before it
 pub fewer-left : (rest : Option (Bor (List ℕ))) (number size all : ℕ)

@@ -3,11 +3,12 @@ use Rattle.std.proofs.lemmas.Result.{err_from_is_err_and}
 use Rattle.std.specs.Prelude.{All, IfOk}
 use Rattle.ea_model.specs.Trace.{IsScheduler, IsValidTrace}
 use Rattle.ea_model.specs.Words.{words}
+use Rattle.ea_model.proofs.Lines.{words-first}
 use Rattle.ea_trace.specs.Language.{lines_of}
 use Rattle.ea_frame.specs.Lines.{rest_lines}
 use Rattle.ea_recorded.specs.Language.{Asked, recorded}
 use Rattle.ea_recorded.specs.Reading.{Reads}
-use Rattle.ea_recorded.proofs.Reached.{at-number, few-lines, fewer-left, lines-first}
+use Rattle.ea_recorded.proofs.Reached.{at-number, few-lines, fewer-left}
 use Rattle.ea_recorded.proofs.reader.read_recorded.Goals as goal
 
 pub loop-rest-init : goal.loop-rest-init
@@ -32,7 +33,7 @@ returns-in_err-take-clause-given c =
     let asked = recorded c.args.bytes.now n in
     let left : rest_lines c.loop-rest.rest
     ≡ words c.first_line.result.0.now ∷ rest_lines c.first_line.result.1 =
-    ap rest_lines c.in-Some.is ∙ lines-first c.in-Some.text.now c.first_line.result.0.now
+    ap rest_lines c.in-Some.is ∙ words-first c.in-Some.text.now c.first_line.result.0.now
     c.first_line.result.1 c.first_line.ensures.lines in
     let p = err_from_is_err_and c.from_residual.result c.from_residual.ensures.1 in
     rw (p.1, p.2) (c.in_err-take.ensures.err n c.loop-rest.reading.number asked
@@ -47,7 +48,7 @@ loop-rest-preserved c =
     let number = c.loop-rest.reading.number in
     let left : rest_lines c.loop-rest.rest
     ≡ words c.first_line.result.0.now ∷ rest_lines c.first_line.result.1 =
-    ap rest_lines c.in-Some.is ∙ lines-first c.in-Some.text.now c.first_line.result.0.now
+    ap rest_lines c.in-Some.is ∙ words-first c.in-Some.text.now c.first_line.result.0.now
     c.first_line.result.1 c.first_line.ensures.lines in
     let fewer = rw c.in-Some.is at c.loop-rest.invariant.fewer in
     let reads = c.in_ok-take.ensures.ok n number asked (rest_lines c.first_line.result.1)

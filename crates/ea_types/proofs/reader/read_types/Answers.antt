@@ -3,6 +3,7 @@ use Rattle.std.proofs.Common.{ap, subst, ◌∙◌, arith}
 use Rattle.std.specs.Option.{option_map}
 use Rattle.std.proofs.lemmas.Result.{err_from_is_err_and}
 use Rattle.ea_model.specs.Words.{words}
+use Rattle.ea_model.proofs.Lines.{words-first}
 use Rattle.ea_model.specs.declared.settings.Letter.{Letter}
 use Rattle.ea_trace.specs.Language.{WordLines, lines_of}
 use Rattle.ea_frame.specs.Lines.{rest_lines}
@@ -14,7 +15,7 @@ use Rattle.ea_types.specs.Readers.{GivesEach}
 use Rattle.ea_types.proofs.Beginning.{before-skipped, begins-with}
 use Rattle.ea_types.proofs.Whole.{IsFound, counts-all, each-room, err-given, few-in}
 use Rattle.ea_types.proofs.Whole.{fewer-left, given-all, given-ones, places-all, unstopped-all}
-use Rattle.ea_types.proofs.Whole.{lines-first, many-all, modes-all, parts-all, texts-all, wrong-all}
+use Rattle.ea_types.proofs.Whole.{many-all, modes-all, parts-all, texts-all, wrong-all}
 use Rattle.ea_types.proofs.reader.read_types.Goals as goal
 
 found-types : (c : goal.After-rest-1)
@@ -74,7 +75,7 @@ returns-in_err-take-clause-given c =
     let text : List ℕ = c.in-Some-rest.text.now in
     let left : rest_lines c.loop-rest.rest
     ≡ words c.first_line.result.0.now ∷ rest_lines c.first_line.result.1 =
-    ap rest_lines c.in-Some-rest.is ∙ lines-first text c.first_line.result.0.now
+    ap rest_lines c.in-Some-rest.is ∙ words-first text c.first_line.result.0.now
     c.first_line.result.1 c.first_line.ensures.lines in
     let reads = subst (λ ms. Reads n types whole (c.loop-rest.number + 1) ms c.loop-rest.reading)
     left c.loop-rest.invariant.reads in
@@ -94,7 +95,7 @@ loop-rest-preserved c =
     let text : List ℕ = c.in-Some-rest.text.now in
     let left : rest_lines c.loop-rest.rest
     ≡ words c.first_line.result.0.now ∷ rest_lines c.first_line.result.1 =
-    ap rest_lines c.in-Some-rest.is ∙ lines-first text c.first_line.result.0.now
+    ap rest_lines c.in-Some-rest.is ∙ words-first text c.first_line.result.0.now
     c.first_line.result.1 c.first_line.ensures.lines in
     let fewer = rw c.in-Some-rest.is at c.loop-rest.invariant.fewer in
     record {
