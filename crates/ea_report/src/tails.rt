@@ -19,12 +19,13 @@ pub struct Tail {
 
 impl Model for Tail {
     ghost use Rattle.std.specs.Prelude.{ℕ, ◌≤◌, List, drop};
+    ghost use Rattle.ea_report.specs.declared.tails.TheConstants.{LONGEST};
 
     ghost Value = { List ℕ };
 
     ghost view = { λ t. drop t.start t.bytes };
 
-    ghost invariant = { λ t. t.start ≤ 608 };
+    ghost invariant = { λ t. t.start ≤ LONGEST };
 }
 
 impl Tail {
