@@ -13,6 +13,7 @@ ghost use Rattle.ea_goodfit.specs.Gaps.{CanCut, CanJoin, IsBelow};
 ghost use Rattle.ea_goodfit.specs.Gaps.{found_in, considered};
 ghost use Rattle.ea_goodfit.specs.Keys.{key_of, IsNext};
 ghost use Rattle.ea_goodfit.specs.declared.fits.Fit.TheVariants.{Good};
+ghost use Rattle.ea_goodfit.specs.declared.keys.TheConstants.{BINS};
 
 use crate::fits::Fit;
 use crate::gaps::BinnedGap;
@@ -327,7 +328,7 @@ impl Bins {
     /// The gap that is taken of those that fit among the first `depth` of a bin.
     fn found_in(&self, bin: u32, need: u32, depth: u32) -> Option<BinnedGap>
         requires fit { self.now.fit ≡ Good }
-        requires bin { bin < 90 }
+        requires bin { bin < BINS }
         ensures { result ≡ found_in bin depth need self.now.held }
     {
         let mut best = None;

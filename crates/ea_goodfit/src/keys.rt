@@ -13,7 +13,7 @@ use crate::gaps::BinnedGap;
 const SHARED: u32 = 64;
 
 /// How many bins there are.
-const BINS: u64 = 90;
+pub const BINS: u64 = 90;
 
 /// How many keys each bin or size has: one for each address.
 pub const SPAN: u64 = 4_294_967_296;
