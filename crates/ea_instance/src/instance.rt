@@ -187,7 +187,8 @@ impl Instance {
         let _created = self.created;
     }
 
-    /// How many carriers it created.
+    /// How many carriers it created: the test of what `plan_carrier` requires, for a caller that
+    /// can't prove it.
     pub fn created(&self) -> u32
         ensures { result ≡ self.now.created }
     {
@@ -201,7 +202,8 @@ impl Instance {
         self.find_multi(carrier).is_some() || item_of(carrier, self.singles.as_slice()).is_some()
     }
 
-    /// Whether it owns the carrier, whoever employs it.
+    /// Whether it owns the carrier, whoever employs it: the test of what `disown` requires, for a
+    /// caller that can't prove it.
     pub fn owns(&self, carrier: u32) -> bool
         ensures { result ≡ is_used carrier self.now.own }
     {
