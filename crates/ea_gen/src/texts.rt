@@ -49,27 +49,13 @@ pub fn make_text(
     Ok(Made { text, gives })
 }
 
-/// The greatest name of an operation, or 0.
-fn greatest_in(op: Op) -> u32
-    ensures { result ≡ Trace.greatest_in op }
-{
-    match op {
-        Op::Alloc { name, .. }
-        | Op::Free { name }
-        | Op::Give { name, .. }
-        | Op::Take { name, .. } => { name }
-        Op::Realloc { old, fresh, .. } => old.max(fresh),
-        Op::Info | Op::Idle => 0,
-    }
-}
-
 /// The greatest name of these operations, or 0.
 pub fn greatest_of(text: &[Op]) -> u32
     ensures { result ≡ Trace.greatest_of text.now }
 {
     let mut greatest = 0;
     for op in text {
-        greatest = greatest.max(greatest_in(*op));
+        greatest = greatest.max(op.greatest_in());
     }
     greatest
 }

@@ -233,8 +233,7 @@ fn turn(bins: &mut Bins, plain: &mut Vec<BinnedGap>, gap: BinnedGap) -> Result<(
         take_out(held.address, plain);
         return Ok(());
     }
-    plain.reserve(1)?;
-    enter_within(gap, plain);
+    enter(gap, plain)?;
     bins.reserve(1)?;
     bins.insert(gap);
     Ok(())

@@ -6,10 +6,11 @@ use Rattle.ea_model.specs.declared.carriers.Segment.{Segment}
 use Rattle.ea_model.specs.declared.entries.NoCarrier.{NoCarrier}
 use Rattle.ea_model.specs.declared.entries.NoCarrier.TheVariants.{Numbers, Space}
 use Rattle.ea_model.specs.declared.units.TheConstants.{NUMBERS}
-use Rattle.ea_model.specs.Instance.{Instance, first_number, free_run, is_alone, least_pages}
+use Rattle.ea_model.specs.Instance.{Instance, first_number, free_run, is_alone}
 use Rattle.ea_model.specs.Instance.{least_plan, next_pages, numbered_plan, plan, planned, segments}
 use Rattle.ea_model.specs.Instance.{sized_plan, unused_from, wanted_pages}
 use Rattle.ea_model.specs.Region.{runs}
+use Rattle.ea_model.specs.Units.{least_pages}
 use Rattle.ea_laws.specs.Spots.{AllUsed}
 use Rattle.ea_laws.proofs.Refusals.{plan-numbers, plan-space}
 

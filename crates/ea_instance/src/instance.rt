@@ -14,7 +14,7 @@ ghost use Rattle.ea_model.specs.Content.{Content, named};
 ghost use Rattle.ea_model.specs.declared.entries.NoCarrier.TheVariants.{Numbers, Space};
 ghost use Rattle.ea_model.specs.Region.{runs};
 ghost use Rattle.ea_model.specs.Settings.{IsValid};
-ghost use Rattle.ea_model.specs.Units.{pages_for};
+ghost use Rattle.ea_model.specs.Units.{least_pages, pages_for};
 ghost use Rattle.ea_model.specs.Strategies.{candidates, may_miss};
 ghost use Rattle.ea_model.specs.Instance.{carrier_line, main_content, new_instance, growth};
 ghost use Rattle.ea_model.specs.Instance.{is_alone, multis, unused_from, plan, created_content};
@@ -22,7 +22,6 @@ ghost use Rattle.ea_model.specs.Instance.{creating, creating_single, chosen_spot
 ghost use Rattle.ea_model.specs.Instance.{single_place, place_at, releasing_at, own_of, resized_to};
 ghost use Rattle.ea_model.specs.Instance.{resizing_at, decision_at, content_of, block_in};
 ghost use Rattle.ea_model.specs.Instance.{has_content, has_vacant, is_used, own_at, segments};
-ghost use Rattle.ea_model.specs.Instance.{least_pages};
 ghost use Rattle.ea_model.specs.Instance as instances;
 ghost use Rattle.ea_instance.specs.Answers.{placing_if};
 ghost use Rattle.ea_employed.specs.Listed.{spot_in, StandsAmong};

@@ -16,9 +16,10 @@ use Rattle.ea_model.specs.Keyed.{IsBelow}
 use Rattle.ea_model.specs.Region.{AreFree, Laid, lowest_run, runs, with_segment}
 use Rattle.ea_model.specs.Instance.{Instance, segments, segment_of, first_number, own_at, own_of}
 use Rattle.ea_model.specs.Instance.{planned_own, with_own, without_own, unused_from, is_used}
-use Rattle.ea_model.specs.Instance.{free_run, is_alone, least_pages, next_pages, wanted_pages}
+use Rattle.ea_model.specs.Instance.{free_run, is_alone, next_pages, wanted_pages}
 use Rattle.ea_model.specs.Instance.{planned, least_plan, sized_plan, numbered_plan, plan}
 use Rattle.ea_model.specs.Instance.{created_content, creating, chosen_spot}
+use Rattle.ea_model.specs.Units.{least_pages}
 use Rattle.ea_model.proofs.Options.{some_holds}
 use Rattle.ea_model.proofs.Rising.{All-entered, change, key_stays, length-entered, rising-changed}
 use Rattle.ea_model.proofs.Rising.{rising-entered}

@@ -16,10 +16,11 @@ use Rattle.ea_model.specs.Content.{Content, is_empty_multi}
 use Rattle.ea_model.specs.Region.{runs}
 use Rattle.ea_model.specs.Instance.{Instance, chosen_spot, unused_from, is_used, first_number, plan}
 use Rattle.ea_model.specs.Instance.{numbered_plan, sized_plan, least_plan, free_run, wanted_pages}
-use Rattle.ea_model.specs.Instance.{least_pages, segments}
+use Rattle.ea_model.specs.Instance.{segments}
 use Rattle.ea_model.specs.Strategies.{candidates, choice_among, choice_for, choice_empty}
 use Rattle.ea_model.specs.Strategies.{large_enough, inspected_by, lower, may_miss, or_else}
 use Rattle.ea_model.specs.Strategies.{takes_first, spot_of}
+use Rattle.ea_model.specs.Units.{least_pages}
 use Rattle.ea_model.proofs.First.{first-none, large-none, none-large}
 use Rattle.ea_model.proofs.Options.{mapped, unmapped}
 use Rattle.ea_laws.proofs.FreeRuns.{lowest-none}

@@ -13,12 +13,12 @@ use Rattle.ea_model.specs.declared.units.TheConstants.{PAGE_UNITS}
 use Rattle.ea_model.specs.Content.{Content, is_vacant}
 use Rattle.ea_model.specs.Employment.{dismissing, disowning}
 use Rattle.ea_model.specs.Instance.{Instance, block_in, chosen_spot, content_of, creating}
-use Rattle.ea_model.specs.Instance.{creating_single, decision_at, employed, least_pages}
+use Rattle.ea_model.specs.Instance.{creating_single, decision_at, employed}
 use Rattle.ea_model.specs.Instance.{new_instance, own_at, place_at, placing_at, plan, releasing_at}
 use Rattle.ea_model.specs.Instance.{resized_to, resizing_at, segments, single_place}
 use Rattle.ea_model.specs.Region.{runs}
 use Rattle.ea_model.specs.Settings.{IsValid}
-use Rattle.ea_model.specs.Units.{pages_for}
+use Rattle.ea_model.specs.Units.{least_pages, pages_for}
 use Rattle.ea_laws.specs.InOrder.{IsInOrder}
 use Rattle.ea_laws.specs.Kept.{Stands}
 use Rattle.ea_laws.specs.Spots.{AllUsed, HaveSameBlocks, IsOther, IsPlaced}

@@ -4,11 +4,12 @@ use Rattle.std.specs.Prelude.{Option, None, Some, Ok, ◌==◌}
 use Rattle.ea_model.specs.declared.carriers.CarrierPlan.{CarrierPlan}
 use Rattle.ea_model.specs.declared.carriers.Spot.{Spot}
 use Rattle.ea_model.specs.Instance.{Instance, employed}
-use Rattle.ea_model.specs.Instance.{free_run, has_vacant, least_pages, least_plan, numbered_plan}
+use Rattle.ea_model.specs.Instance.{free_run, has_vacant, least_plan, numbered_plan}
 use Rattle.ea_model.specs.Instance.{first_number, owner_of, plan}
 use Rattle.ea_model.specs.Instance.{releasing_at, sized_plan, unused_from}
 use Rattle.ea_model.specs.Instance.{wanted_pages}
 use Rattle.ea_model.specs.declared.units.TheConstants.{NUMBERS}
+use Rattle.ea_model.specs.Units.{least_pages}
 use Rattle.ea_machine.specs.declared.nodes.Node.{Node}
 use Rattle.ea_machine.specs.declared.nodes.Node.TheVariants.{Block, Carrier}
 use Rattle.ea_machine.specs.Placements.{created}

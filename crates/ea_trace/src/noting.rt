@@ -23,20 +23,6 @@ use ea_model::{List, Mode, Op, OutOfMemory, Stop};
 use std::alloc::Global;
 use std::mem;
 
-/// The greatest name of an operation, or 0.
-fn greatest_in(op: Op) -> u32
-    ensures { result ≡ Trace.greatest_in op }
-{
-    match op {
-        Op::Alloc { name, .. }
-        | Op::Free { name }
-        | Op::Give { name, .. }
-        | Op::Take { name, .. } => { name }
-        Op::Realloc { old, fresh, .. } => old.max(fresh),
-        Op::Info | Op::Idle => 0,
-    }
-}
-
 /// Adds a line that takes a name.
 fn add_take(takes: &mut Vec<TakeLine>, number: u32, section: u32, op: Op) -> Result<(), OutOfMemory>
     requires range { HasRanges op }
@@ -97,7 +83,7 @@ impl Seen {
         self.names.note(self.section, op);
         self.count += 1;
         self.tries += tries_of(op);
-        self.greatest = self.greatest.max(greatest_in(op));
+        self.greatest = self.greatest.max(op.greatest_in());
         self.text.push(op)
     }
 
