@@ -1,7 +1,6 @@
 //! Notes the lines that are taken.
 ghost use Rattle.std.specs.Prelude.{◌≡◌, ◌+◌, ◌<◌, ◌≤◌, ◌∷◌, [], ℕ, false, true, All, is_some};
 ghost use Rattle.std.specs.Prelude.{length, map, option_map, OnOk};
-ghost use Rattle.ea_model.specs.Trace;
 ghost use Rattle.ea_trace.specs.Knows.{HasRoom, KeepsRest, Knows, Stands, is_mark};
 ghost use Rattle.ea_trace.specs.Language.{Earlier, and_last, gives_outside, is_bad_scheduler};
 ghost use Rattle.ea_trace.specs.Language.{is_reused, reuses, sections, takes_in};
