@@ -430,8 +430,8 @@ impl Instance {
     }
 
     /// Releases the block at the spot, and says whether the carrier is to be deallocated: it is
-    /// left without blocks and isn't a main carrier. It stays employed until it is dismissed. It
-    /// takes no memory.
+    /// left without blocks, as a singleblock carrier always is, and isn't a main carrier. It stays
+    /// employed until it is dismissed. It takes no memory.
     pub fn release(&mut self, spot: Spot) -> bool
         requires { IsSome (block_in (employed self.old) spot) }
         ensures released { self.new ≡ releasing_at self.old spot }

@@ -4,7 +4,7 @@ use Rattle.std.specs.Prelude.{None, Some}
 use Rattle.ea_model.specs.Instance.{Instance, first_number, new_instance, owner_of}
 use Rattle.ea_model.specs.Content.{Content}
 use Rattle.ea_machine.specs.declared.nodes.Node.{Node}
-use Rattle.ea_machine.specs.Owners.{CarrierAt, Absent, Employed}
+use Rattle.ea_machine.specs.Owners.{CarrierAt, employed_if}
 use Rattle.ea_machine.specs.Setup.{Setup, first_page, is_scheduler, migration}
 use Rattle.ea_machine.specs.Shared.{put}
 use Rattle.ea_machine.specs.declared.stages.Stage.{Stage}
@@ -156,11 +156,6 @@ module _ (setup : Setup) where
         log = [];
       })
 
-  -- whether the instance has its main carrier there
-  abbrev pub place_by : Bool → ℕ → CarrierAt
-  place_by true me = Employed me
-  place_by false me = Absent
-
   -- whether the number is that of a scheduler's main carrier, and the settings ask for one
   abbrev pub is_main : ℕ → ℕ → Bool
   is_main me number = is_scheduler setup me
@@ -169,7 +164,7 @@ module _ (setup : Setup) where
   -- the main carriers are employed by their owners; where carriers don't migrate no owner word is
   -- set
   abbrev pub first_place : ℕ → CarrierAt
-  first_place number = place_by (migration setup && is_main (owner_of number) number)
+  first_place number = employed_if (migration setup && is_main (owner_of number) number)
       (owner_of number)
 
   -- the state before the first step

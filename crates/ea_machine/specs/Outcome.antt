@@ -18,6 +18,7 @@ use Rattle.ea_machine.specs.declared.nodes.Node.{Node}
 use Rattle.ea_machine.specs.declared.nodes.Node.TheVariants.{Block, Carrier}
 use Rattle.ea_machine.specs.Nodes.{Mark}
 use Rattle.ea_machine.specs.Owners.{CarrierAt, Absent, Employed, Pooled, Busy, Returning}
+use Rattle.ea_machine.specs.Owners.{employed_if}
 use Rattle.ea_machine.specs.Setup.{Setup, greatest_number, migration, setup_of}
 use Rattle.ea_machine.specs.declared.stages.Stage.{Stage}
 use Rattle.ea_machine.specs.declared.stages.Route.{Route}
@@ -100,15 +101,10 @@ module _ (setup : Setup) (w : State) where
   present_at number (Busy i) = present_if (settling_at (w.actors i).stage) standing.Busy i
   present_at number (Returning i x) = present_if (Some x) standing.Returning i
 
-  -- by whether the instance owns it
-  abbrev pub owned_place : Bool → ℕ → CarrierAt
-  owned_place true i = Employed i
-  owned_place false i = Absent
-
   -- by whether carriers migrate
   abbrev pub place_in : Bool → ℕ → CarrierAt
   place_in true number = w.shared.places number
-  place_in false number = owned_place
+  place_in false number = employed_if
       (is_used number (w.actors (owner_of number)).instance.own) (owner_of number)
 
   -- where a carrier is; where carriers don't migrate, its owner employs it while it is there

@@ -17,6 +17,11 @@ pub data CarrierAt : Type 0 where
   -- it is empty, and on its way to its owner
   Returning : (instance : ℕ) (content : Content) → CarrierAt
 
+-- employed by the instance, or absent
+abbrev pub employed_if : Bool → ℕ → CarrierAt
+employed_if true i = Employed i
+employed_if false i = Absent
+
 -- its owner word
 abbrev pub word_of : CarrierAt → OwnerWord
 word_of Absent = word.Absent

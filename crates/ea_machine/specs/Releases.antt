@@ -2,9 +2,7 @@
 -- scheduler that employs its carrier, or that abandoned it into the pool; another one puts it into
 -- that scheduler's queue.
 use Rattle.std.specs.Prelude.{ℕ, Bool, true, false, ◌==◌, Option, None, Some}
-use Rattle.ea_model.specs.declared.carriers.Kind.{Kind}
-use Rattle.ea_model.specs.declared.carriers.Kind.TheVariants.{Main, Multi, Single}
-use Rattle.ea_model.specs.Content.{Content, is_nil, released}
+use Rattle.ea_model.specs.Content.{Content, is_nil, is_vacant, released}
 use Rattle.ea_model.specs.Instance.{content_of, employed, releasing_at, owner_of}
 use Rattle.ea_machine.specs.declared.nodes.Node.TheVariants.{Carrier}
 use Rattle.ea_machine.specs.declared.owners.OwnerWord.{OwnerWord}
@@ -104,21 +102,15 @@ module _ (setup : Setup) (me : ℕ) where
   abbrev pub leaving : Content → Gone → Actor → Turned
   leaving x gone a = leaving_by (owner_of x.number == me) (migration setup) x gone a
 
-  -- a multiblock carrier from which a block was released, and whether it is empty now
+  -- a carrier from which a block was released, and whether it is to be deallocated
   abbrev pub lightened : Bool → Content → Gone → Actor → Turned
   lightened true x gone a = leaving x gone (dismissed x.number a)
   lightened false x gone a = abandoned_if (is_due setup.settings a.instance.contents x) x gone a
 
-  -- the carrier from which a block was released, by its kind: the main one always stays
-  abbrev pub after_release_by : Kind → Content → Gone → Actor → Turned
-  after_release_by Main x gone a = ends gone a
-  after_release_by Multi x gone a = lightened (is_nil x.blocks) x gone a
-  after_release_by Single x gone a = leaving x gone (dismissed x.number a)
-
   -- the content of that carrier; it is always there
   abbrev pub after_release : Gone → Actor → Option Content → Turned
   after_release gone a None = ends gone a
-  after_release gone a (Some x) = after_release_by x.kind x (first_gone gone Here) a
+  after_release gone a (Some x) = lightened (is_vacant x) x (first_gone gone Here) a
 
   -- a block was released from the carrier
   abbrev pub released_from : ℕ → Gone → Actor → Turned

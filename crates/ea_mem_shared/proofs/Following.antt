@@ -11,9 +11,9 @@ use Rattle.ea_machine.specs.declared.nodes.Node.{Node}
 use Rattle.ea_machine.specs.declared.owners.OwnerWord.{OwnerWord}
 use Rattle.ea_machine.specs.declared.owners.OwnerWord.TheVariants as word
 use Rattle.ea_machine.specs.Alike.{HasNoAlike, alike_in, are_alike}
-use Rattle.ea_machine.specs.Machine.{place_by, start}
+use Rattle.ea_machine.specs.Machine.{start}
 use Rattle.ea_machine.specs.Nodes.{Mark}
-use Rattle.ea_machine.specs.Owners.{Absent, Employed, Pooled, Busy, word_of}
+use Rattle.ea_machine.specs.Owners.{Absent, Employed, Pooled, Busy, employed_if, word_of}
 use Rattle.ea_machine.specs.Rows.{Answer, Row, Abandon, BusyTry, Create, FetchTry}
 use Rattle.ea_machine.specs.Setup.{migration, setup_of}
 use Rattle.ea_machine.specs.Shared.{Shared, put}
@@ -60,7 +60,7 @@ nothing_shared = record {
 -- carrier 2 is no main carrier
 pub first-absent : (c : Config) (t : Trace) → (start (setup_of c t)).shared.places 2 ≡ Absent
 first-absent c t = by (migration (setup_of c t)) _ _ where
-  by : (on seat some : Bool) → place_by (setup_of c t) (on && (seat && (some && false))) 1 ≡ Absent
+  by : (on seat some : Bool) → employed_if (on && (seat && (some && false))) 1 ≡ Absent
   by true true true = refl
   by true true false = refl
   by true false some = refl

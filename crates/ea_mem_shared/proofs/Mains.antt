@@ -6,10 +6,10 @@ use Rattle.std.proofs.lemmas.Bool.{cases_eq}
 use Rattle.std.proofs.lemmas.List.{get_or-set_other, get_or-set_same}
 use Rattle.ea_model.specs.declared.units.TheConstants.{NUMBERS}
 use Rattle.ea_model.specs.Instance.{first_number, owner_of}
-use Rattle.ea_machine.specs.Machine.{first_place, is_main, place_by}
-use Rattle.ea_machine.specs.Owners.{CarrierAt, Absent, Employed}
+use Rattle.ea_machine.specs.Machine.{first_place, is_main}
+use Rattle.ea_machine.specs.Owners.{CarrierAt, Absent, Employed, employed_if}
 use Rattle.ea_machine.specs.Setup.{Setup, migration}
-use Rattle.ea_shared.specs.Carriers.{employed_if, is_first_upto, main_upto}
+use Rattle.ea_shared.specs.Carriers.{is_first_upto, main_upto}
 use Rattle.ea_mem_shared.specs.Places.{place_at}
 
 -- before the first scheduler
@@ -62,10 +62,6 @@ module _ (e : Setup) where
   an-owner : (n : ℕ) → nat_lt 0 (owner_of n) ≡ true
   an-owner n = grind arith
 
-  same-place : (b : Bool) (i : ℕ) → employed_if b i ≡ place_by e b i
-  same-place true i = refl
-  same-place false i = refl
-
   main-is : (n : ℕ) → ((migration e && nat_lt 0 e.settings.mmbcs) && is_first_upto e.schedulers n)
       ≡ (migration e && is_main e (owner_of n) n)
   main-is n = by (migration e) (nat_le (owner_of n) e.schedulers) (nat_lt 0 e.settings.mmbcs)
@@ -76,4 +72,4 @@ module _ (e : Setup) where
   pub mains-first : (n : ℕ)
       → employed_if ((migration e && nat_lt 0 e.settings.mmbcs) && is_first_upto e.schedulers n)
       (owner_of n) ≡ first_place e n
-  mains-first n = same-place _ (owner_of n) ∙ ap (λ b. place_by e b (owner_of n)) (main-is n)
+  mains-first n = ap (λ b. employed_if b (owner_of n)) (main-is n)

@@ -2,10 +2,10 @@
 ghost use Rattle.std.specs.Prelude.{◌≡◌, ℕ, ◌+◌, ◌*◌, ◌<◌, ◌≤◌, ◌&&◌, true, length, IfOk};
 ghost use Rattle.ea_model.specs.declared.units.TheConstants.{MAX_SCHEDULERS, NUMBERS};
 ghost use Rattle.ea_model.specs.Instance.{owner_of};
-ghost use Rattle.ea_machine.specs.Owners.{Absent};
+ghost use Rattle.ea_machine.specs.Owners.{Absent, employed_if};
 ghost use Rattle.ea_machine.specs.Machine.{start};
 ghost use Rattle.ea_machine.specs.Setup.{migration, setup_of};
-ghost use Rattle.ea_shared.specs.Carriers.{employed_if, is_first_upto, main_upto};
+ghost use Rattle.ea_shared.specs.Carriers.{is_first_upto, main_upto};
 ghost use Rattle.ea_mem_shared.specs.Memory.{shared_of};
 ghost use Rattle.ea_mem_shared.specs.Places.{place_at};
 

@@ -2,12 +2,10 @@
 -- its walk is over it may do its next operation.
 use Rattle.std.proofs.Common.{◌≡◌, ℕ, Bool, true, false, List, []}
 use Rattle.std.proofs.Common.{◌∷◌, drop, refl, sym, ap, ◌∙◌, subst}
-use Rattle.std.specs.Prelude.{◌==◌, Option, None, Some, IfSome}
-use Rattle.std.proofs.lemmas.Bool.{eqb-true}
-use Rattle.ea_model.specs.declared.carriers.Kind.TheVariants.{Single}
+use Rattle.std.specs.Prelude.{◌==◌, Option, None, Some}
 use Rattle.ea_model.specs.declared.carriers.Spot.{Spot}
 use Rattle.ea_model.specs.Content.{Content}
-use Rattle.ea_model.specs.Instance.{content_of, employed, owner_of, releasing_at}
+use Rattle.ea_model.specs.Instance.{owner_of}
 use Rattle.ea_model.specs.Settings.{IsValidConfig}
 use Rattle.ea_model.specs.Trace.{IsScheduler, IsValidTrace}
 use Rattle.ea_machine.specs.declared.nodes.Named.{Named}
@@ -29,7 +27,7 @@ use Rattle.ea_machine.specs.Tasks.{carried_by}
 use Rattle.ea_machine.specs.Walks.{with_passed}
 use Rattle.ea_sound.specs.Leaves.{InWalk}
 use Rattle.ea_sound.specs.Moments.{at}
-use Rattle.ea_sound.proofs.OffWalks.{passed-carrier, passed-emptied, passed-here}
+use Rattle.ea_sound.proofs.OffWalks.{passed-carrier, passed-here}
 use Rattle.ea_sound.proofs.OffWalks.{passed-own, take_all-walks, take_link-passes}
 use Rattle.ea_sound.proofs.OffWalks.{take_link-rests}
 use Rattle.ea_sound.proofs.OffWalks.{walk-held, walk-on}
@@ -60,19 +58,11 @@ module _ (e : Setup) (v : State) (s : Shared) (me : ℕ) (is : is_scheduler e me
     abbrev turn : Turned
     turn = route_of e me hand rest
 
-    emptied : owner_of p.carrier ≡ me → (o : Option Content)
-        → content_of (employed (releasing_at a.instance p)) p.carrier ≡ o
-        → IfSome o (λ x. x.kind ≡ Single → x.blocks ≡ [])
-    emptied own None q = tt
-    emptied own (Some x) q = passed-emptied e v s me is off
-        (record a { passed = Block n p ∷ ns }) walks n p ns refl own x q
-
     can-go : owner_of p.carrier ≡ me → CanGo a.instance p
     can-go own = record {
       block = passed-here e v s me is off (record a { passed = Block n p ∷ ns }) walks n p ns
           refl own;
       own = passed-own e v s me is off (record a { passed = Block n p ∷ ns }) walks n p ns refl own;
-      emptied = emptied own _ refl;
     }
 
     -- it is released, and the walk goes on with the others
@@ -87,7 +77,6 @@ module _ (e : Setup) (v : State) (s : Shared) (me : ℕ) (is : is_scheduler e me
       as-freed : (o : Option (Route Content)) → turn.route ≡ o → turned o ≡ at Begin then
       as-freed o same = ap turned (sym same)
           ∙ released-here e me off Walk (λ gone b. at Begin b) (λ b. refl) rest hand own
-          (can-go (eqb-true (owner_of p.carrier) me own)).emptied
 
       by : (o : Option (Route Content)) → turn.route ≡ o → Walks then
       by None over = subst (InWalk e v s me) (as-freed None over)

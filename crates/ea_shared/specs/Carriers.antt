@@ -1,6 +1,6 @@
 -- Where carriers are before the first step, what a try to get one tells, and what is handed to a
 -- call that puts one home.
-use Rattle.std.specs.Prelude.{◌≡◌, ◌≢◌, ℕ, ◌*◌, ◌<◌, ◌≤◌, ◌&&◌, ◌==◌, Bool, true, false, nat_le}
+use Rattle.std.specs.Prelude.{◌≡◌, ◌≢◌, ℕ, ◌*◌, ◌<◌, ◌≤◌, ◌&&◌, ◌==◌, Bool, false, nat_le}
 use Rattle.std.specs.Prelude.{[], ◌∷◌, Option, None, Some}
 use Rattle.ea_model.specs.declared.units.TheConstants.{NUMBERS}
 use Rattle.ea_model.specs.Content.{Content, gaps_of, largest}
@@ -9,7 +9,7 @@ use Rattle.ea_machine.specs.declared.owners.OwnerWord.{OwnerWord}
 use Rattle.ea_machine.specs.declared.owners.OwnerWord.TheVariants as word
 use Rattle.ea_machine.specs.declared.stages.Stage.TheVariants.{Collecting}
 use Rattle.ea_machine.specs.Lists.{counts}
-use Rattle.ea_machine.specs.Owners.{CarrierAt, word_of}
+use Rattle.ea_machine.specs.Owners.{CarrierAt, employed_if, word_of}
 use Rattle.ea_machine.specs.Owners as owners
 use Rattle.ea_machine.specs.Rows.{Answer, Settle}
 use Rattle.ea_machine.specs.Rows as rows
@@ -31,10 +31,6 @@ module _ {C : Type 0} (content : C → Content) where
 abbrev pub is_first_upto : ℕ → ℕ → Bool
 is_first_upto last number = nat_le (owner_of number) last
     && (number == first_number (owner_of number))
-
-abbrev pub employed_if : Bool → ℕ → CarrierAt
-employed_if true i = owners.Employed i
-employed_if false i = owners.Absent
 
 abbrev pub main_upto : ℕ → ℕ → CarrierAt
 main_upto last number = employed_if (is_first_upto last number) (owner_of number)

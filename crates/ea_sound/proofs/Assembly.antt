@@ -1,12 +1,10 @@
 -- What each move of a scheduler keeps, its local work keeps.
 use Rattle.std.proofs.Common.{◌≡◌, ◌≢◌, ℕ, List, [], ◌∷◌, Bool, true, false, refl, sym, subst, inr}
 use Rattle.std.specs.Prelude.{Option, Some, None, ◌==◌}
-use Rattle.std.proofs.lemmas.Bool.{eqb-true}
+use Rattle.std.proofs.lemmas.Bool.{and_parts, eqb-true}
 use Rattle.ea_model.specs.declared.carriers.BlockAt.{BlockAt}
-use Rattle.ea_model.specs.declared.carriers.Kind.{Kind}
-use Rattle.ea_model.specs.declared.carriers.Kind.TheVariants.{Main, Multi, Single}
 use Rattle.ea_model.specs.Entries.{Entry}
-use Rattle.ea_model.specs.Content.{Content, is_nil}
+use Rattle.ea_model.specs.Content.{Content, can_go, is_nil, is_vacant}
 use Rattle.ea_model.specs.Instance.{content_of, employed, releasing_at, owner_of}
 use Rattle.ea_model.proofs.Rising.{item_at-key}
 use Rattle.ea_laws.specs.Kept.{number_of}
@@ -30,7 +28,7 @@ use Rattle.ea_machine.specs.declared.tasks.Gone.TheVariants.{Open, Here as HereG
 use Rattle.ea_machine.specs.Nodes.{block_node, named_at}
 use Rattle.ea_machine.specs.declared.nodes.Named.{Named}
 use Rattle.ea_machine.specs.Releases.{Turned, dismissed, disowned, employed_by, first_gone}
-use Rattle.ea_machine.specs.Releases.{forwarded, after_release, after_release_by, leaving_by}
+use Rattle.ea_machine.specs.Releases.{forwarded, after_release, leaving_by}
 use Rattle.ea_machine.specs.Releases.{lightened, looked, looked_at, owned_by, pooled_by}
 use Rattle.ea_machine.specs.Releases.{release_here, route_of, routed, sent_to, settled}
 use Rattle.ea_machine.specs.Releases.{abandoned_if, tried, turned}
@@ -52,10 +50,6 @@ pub record Closed (e : Setup) (s : Shared) (me : ℕ) (P : Actor → Type 0) : T
   pub release : (h : Named) (y : Why) (g : Gone) (a : Actor) → Here e s me h.spot.carrier
       → P (at (Routed (Looking h) y g) a)
       → P (at Begin (record a { instance = releasing_at a.instance h.spot }))
-  pub emptied : (h : Named) (y : Why) (g : Gone) (x : Content) (a : Actor)
-      → Here e s me h.spot.carrier → P (at (Routed (Looking h) y g) a)
-      → content_of (employed (releasing_at a.instance h.spot)) h.spot.carrier ≡ Some x
-      → x.kind ≡ Single → x.blocks ≡ []
   pub dismiss : (x : Content) (y : Why) (g : Gone) (a : Actor)
       → content_of (employed a.instance) x.number ≡ Some x → P (at Begin a)
       → P (at (Routed (Abandoning x) y g) (dismissed x.number a))
@@ -91,6 +85,9 @@ pub nil-is : (bs : List BlockAt) → is_nil bs ≡ true → bs ≡ []
 nil-is [] e = refl
 nil-is (b ∷ bs) e = absurd cc
 
+pub vacant-nil : (x : Content) → is_vacant x ≡ true → x.blocks ≡ []
+vacant-nil x vacant = nil-is x.blocks (and_parts (can_go x.kind) (is_nil x.blocks) vacant).1
+
 module _ (e : Setup) (w : State) (s : Shared) (me : ℕ) (P : Actor → Type 0) (c : Closed e s me P)
   where
     -- what a route leaves
@@ -117,37 +114,27 @@ module _ (e : Setup) (w : State) (s : Shared) (me : ℕ) (P : Actor → Type 0) 
     abandoned_if-holds false x y g a is h = (h, refl)
 
     lightened-holds : (b : Bool) (x : Content) (y : Why) (g : Gone) (a : Actor)
-        → content_of (employed a.instance) x.number ≡ Some x → is_nil x.blocks ≡ b → P (at Begin a)
+        → content_of (employed a.instance) x.number ≡ Some x → is_vacant x ≡ b → P (at Begin a)
         → Holds y a.passed (lightened e me b x g a)
-    lightened-holds true x y g a is z h =
-        leaving-holds _ _ x y g (dismissed x.number a) refl refl (nil-is x.blocks z)
+    lightened-holds true x y g a is vacant h =
+        leaving-holds _ _ x y g (dismissed x.number a) refl refl (vacant-nil x vacant)
         (c.dismiss x y g a is h)
-    lightened-holds false x y g a is z h = abandoned_if-holds _ x y g a is h
-
-    after_release_by-holds : (k : Kind) (x : Content) (y : Why) (g : Gone) (a : Actor)
-        → content_of (employed a.instance) x.number ≡ Some x → (k ≡ Single → x.blocks ≡ [])
-        → P (at Begin a) → Holds y a.passed (after_release_by e me k x g a)
-    after_release_by-holds Main x y g a is z h = (h, refl)
-    after_release_by-holds Multi x y g a is z h =
-        lightened-holds (is_nil x.blocks) x y g a is refl h
-    after_release_by-holds Single x y g a is z h =
-        leaving-holds _ _ x y g (dismissed x.number a) refl refl (z refl) (c.dismiss x y g a is h)
+    lightened-holds false x y g a is vacant h = abandoned_if-holds _ x y g a is h
 
     left-holds : (n : ℕ) (y : Why) (g : Gone) (a : Actor) (o : Option Content)
-        → content_of (employed a.instance) n ≡ o
-        → ((x : Content) → o ≡ Some x → x.kind ≡ Single → x.blocks ≡ []) → P (at Begin a)
+        → content_of (employed a.instance) n ≡ o → P (at Begin a)
         → Holds y a.passed (after_release e me g a o)
-    left-holds n y g a None is z h = (h, refl)
-    left-holds n y g a (Some x) is z h =
-        after_release_by-holds x.kind x y (first_gone g HereGone) a
+    left-holds n y g a None is h = (h, refl)
+    left-holds n y g a (Some x) is h =
+        lightened-holds (is_vacant x) x y (first_gone g HereGone) a
         (subst (λ m. content_of (employed a.instance) m ≡ Some x)
-        (sym (item_at-key number_of n x (employed a.instance) is)) is) (z x refl) h
+        (sym (item_at-key number_of n x (employed a.instance) is)) is) refl h
 
     here-holds : (h : Named) (y : Why) (g : Gone) (a : Actor) → Here e s me h.spot.carrier
         → P (at (Routed (Looking h) y g) a) → Holds y a.passed (release_here e me h g a)
     here-holds h y g a mine k =
         left-holds h.spot.carrier y g (record a { instance = releasing_at a.instance h.spot }) _
-        refl (λ x is single. c.emptied h y g x a mine k is single) (c.release h y g a mine k)
+        refl (c.release h y g a mine k)
 
     sent-holds : (h : Named) (y : Why) (g : Gone) (to : ℕ) (a : Actor)
         → P (at (Routed (Looking h) y g) a) → Holds y a.passed (sent_to h to g a)

@@ -1,28 +1,22 @@
 -- Moves of a scheduler with a carrier: a block of it is released, and it leaves the instance or its
 -- owner.
-use Rattle.std.proofs.Common.{◌≡◌, ℕ, ◌+◌, ◌*◌, ◌/◌, List, [], ◌∷◌, true, false, refl, sym, ap, ◌∙◌}
+use Rattle.std.proofs.Common.{◌≡◌, ℕ, ◌+◌, ◌*◌, ◌/◌, List, [], true, false, refl, sym, ap, ◌∙◌}
 use Rattle.std.proofs.Common.{subst, inl, inr, arith}
-use Rattle.std.proofs.lemmas.Bool.{cases_eq, true≢false}
+use Rattle.std.proofs.lemmas.Bool.{true≢false}
 use Rattle.std.proofs.lemmas.List.Elements.{All-filter, All-weaker}
-use Rattle.std.specs.Prelude.{Some, None, All}
-use Rattle.ea_model.specs.declared.carriers.BlockAt.{BlockAt}
-use Rattle.ea_model.specs.declared.carriers.Kind.TheVariants.{Single}
+use Rattle.std.specs.Prelude.{Some, All}
 use Rattle.ea_model.specs.declared.carriers.OwnCarrier.{OwnCarrier}
 use Rattle.ea_model.specs.declared.carriers.Spot.{Spot}
-use Rattle.ea_model.specs.Content.{Content, block_at, released}
-use Rattle.ea_model.specs.Keyed.{without}
+use Rattle.ea_model.specs.Content.{Content, released}
 use Rattle.ea_model.specs.Instance.{Instance, changed, content_of, employed, own_at, own_of}
 use Rattle.ea_model.specs.Instance.{releasing_at, without_own, owner_of}
-use Rattle.ea_model.proofs.Options.{same-some}
-use Rattle.ea_model.proofs.Rising.{item_at-All, item_at-key, item_past, without_here}
+use Rattle.ea_model.proofs.Rising.{item_at-All, item_at-key}
 use Rattle.ea_model.specs.Employment.{dismissing}
-use Rattle.ea_laws.specs.Kept.{number_of, own_number, HasOneBlock, IsLaidOut, IsLaidOutAlone}
+use Rattle.ea_laws.specs.Kept.{number_of, own_number, IsLaidOut, IsLaidOutAlone}
 use Rattle.ea_laws.specs.Kept.{IsOrderly, IsRising}
-use Rattle.ea_laws.specs.Kinds.{is_shared}
-use Rattle.ea_laws.proofs.BlockLists.{offset_of}
 use Rattle.ea_laws.proofs.Apart.{changed-All}
 use Rattle.ea_laws.proofs.Changed.{released-keeps}
-use Rattle.ea_laws.proofs.Orderly.{changing-found, disowning-IsOrderly, dismissing-IsOrderly}
+use Rattle.ea_laws.proofs.Orderly.{disowning-IsOrderly, dismissing-IsOrderly}
 use Rattle.ea_laws.proofs.Orderly.{releasing-IsOrderly}
 use Rattle.ea_machine.specs.declared.stages.Stage.TheVariants.{Begin, Routed}
 use Rattle.ea_machine.specs.declared.stages.Route.TheVariants.{Looking, Abandoning}
@@ -62,18 +56,6 @@ pub found-laid : (i : Instance) (n : ℕ) (c : Content) → IsOrderly i
 found-laid i n c order there = employed-holds IsLaidOutAsKind i n c
     (All-weaker IsLaidOut IsLaidOutAsKind (λ x. inl) i.contents order.laid)
     (All-weaker IsLaidOutAlone IsLaidOutAsKind (λ x. inr) i.singles order.alone) there
-
--- the one block of a singleblock carrier is released
-pub one-released : (units offset : ℕ) (bs : List BlockAt) (b : BlockAt) → HasOneBlock units bs
-    → block_at bs offset ≡ Some b → without offset_of offset bs ≡ []
-one-released units offset [] b one there = refl
-one-released units offset (c ∷ []) b one there =
-    elim (cases_eq c.offset offset) [
-      | inl q ↦ without_here offset_of offset c [] q
-      | inr other ↦ absurd
-          (let none : None ≡ Some b = sym (item_past offset_of offset c [] other) ∙ there in cc)
-    ]
-one-released units offset (c ∷ d ∷ bs) b one there = absurd one
 
 module _ (e : Setup) (w : State) (s : Shared) (me : ℕ) (is : is_scheduler e me ≡ true)
     (P : Actor → Type 0) (keeps : Keeps e w s me is P) where
@@ -204,29 +186,6 @@ module _ (e : Setup) (w : State) (s : Shared) (me : ℕ) (is : is_scheduler e me
       busy = λ q. absurd cc;
     }
 
-    -- a singleblock carrier is empty then
-    module _ (x : Content)
-        (there : content_of (employed (releasing_at a.instance h.spot)) h.spot.carrier ≡ Some x)
-        (single : x.kind ≡ Single) where
-      is-released : released found.0 h.spot.offset ≡ x
-      is-released = same-some
-          (content_of (employed (releasing_at a.instance h.spot)) h.spot.carrier)
-          (released found.0 h.spot.offset) x
-          (changing-found (λ c. released c h.spot.offset) (released-keeps h.spot.offset)
-          h.spot.carrier a.instance found.0 found.1) there
-
-      kind-found : found.0.kind ≡ Single
-      kind-found = ap (λ (c : Content). c.kind) is-released ∙ single
-
-      is-empty : x.blocks ≡ []
-      is-empty =
-          let c = found.0 in
-          elim (found-laid a.instance h.spot.carrier c (released-lie.instance is).order found.1) [
-            | inl many ↦ absurd (true≢false (sym many.shared ∙ ap is_shared kind-found))
-            | inr one ↦ ap (λ (z : Content). z.blocks) (sym is-released)
-                ∙ one-released c.units h.spot.offset c.blocks found.2.0 one.block found.2.1
-          ]
-
   -- where carriers don't migrate the emptied carrier in the hand goes for good
   module _ (x : Content) (y : Why) (g : Gone) (a : Actor) (empty : x.blocks ≡ [])
       (mine : owner_of x.number ≡ me) (off : migration e ≡ false)
@@ -305,8 +264,6 @@ module _ (e : Setup) (w : State) (s : Shared) (me : ℕ) (is : is_scheduler e me
         goes-alike e w s me is P keeps (at (Routed (Looking h) y g) a)
         (at Begin (record a { instance = releasing_at a.instance h.spot }))
         (released-alike h y g a here k) (release-fewer h y g a here k) p;
-    emptied = λ h y g x a here p there single.
-        is-empty h y g a here (keeps.kept (at (Routed (Looking h) y g) a) p) x there single;
     dismiss = dismiss-goes;
     send = send-goes e w s me is P keeps;
     clear = clear-goes e w s me is P keeps;

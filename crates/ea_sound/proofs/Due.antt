@@ -1,14 +1,19 @@
--- A carrier that is due stays so when it comes into the hand.
-use Rattle.std.proofs.Common.{◌≡◌, ◌≢◌, ℕ, List, ◌∷◌, Bool, true, ◌&&◌, refl, sym, ap, ◌∙◌, arith}
+-- A carrier that is due is a multiblock carrier that has blocks, and stays due when it comes into
+-- the hand.
+use Rattle.std.proofs.Common.{◌≡◌, ◌≢◌, ℕ, List, ◌∷◌, Bool, true, false, ◌&&◌, refl, sym, ap}
+use Rattle.std.proofs.Common.{◌∙◌, arith}
 use Rattle.std.specs.Prelude.{Option, Some, None, not, sum_by}
-use Rattle.ea_model.specs.declared.carriers.Kind.TheVariants.{Multi, Single}
+use Rattle.std.proofs.lemmas.Bool.{and_parts, and_right, not-true}
+use Rattle.ea_model.specs.declared.carriers.Kind.{Kind}
+use Rattle.ea_model.specs.declared.carriers.Kind.TheVariants.{Main, Multi, Single}
 use Rattle.ea_model.specs.declared.settings.Settings.{Settings}
-use Rattle.ea_model.specs.Content.{Content, allocated, is_multi, is_nil}
+use Rattle.ea_model.specs.Content.{Content, allocated, can_go, is_multi, is_nil, is_vacant}
 use Rattle.ea_model.specs.Instance.{Instance, content_of, employed, figures, without_content}
 use Rattle.ea_model.proofs.Options.{same-some}
 use Rattle.ea_model.proofs.Rising.{item_at-All}
 use Rattle.ea_laws.specs.Kept.{number_of, IsLaidOutAlone, IsOrderly, IsRising}
-use Rattle.ea_model.specs.Abandonment.{has_large_gap, is_due, is_sparse, is_sparse_carrier}
+use Rattle.ea_model.specs.Abandonment.{are_sparse, has_large_gap, is_due, is_sparse}
+use Rattle.ea_model.specs.Abandonment.{is_sparse_carrier}
 use Rattle.ea_sound.proofs.KeyedWeights.{sum-without, times-once}
 use Rattle.ea_laws.proofs.Orderly.{employed-alone, employed-many}
 use Rattle.ea_sound.proofs.Weights.{sum_by-sum_over}
@@ -23,6 +28,27 @@ module _ (f : Content → ℕ) (x : Content) (cs : List Content) (rising : IsRis
     sum_by-sum_over f cs,
     sum-without number_of f x.number x cs (times-once number_of x.number cs rising) there,
   )
+
+-- what is due
+module _ (s : Settings) (cs : List Content) (x : Content) (due : is_due s cs x ≡ true) where
+  both : (is_multi x.kind ≡ true) × (not (is_nil x.blocks) ≡ true)
+  both = and_parts (is_multi x.kind) (not (is_nil x.blocks)) (and_parts
+      (is_multi x.kind && not (is_nil x.blocks))
+      (is_sparse_carrier s x && are_sparse s cs && has_large_gap s x) due).0
+
+  pub due-multi : x.kind ≡ Multi
+  due-multi = by x.kind refl both.0 where
+    by : (k : Kind) → x.kind ≡ k → is_multi k ≡ true → x.kind ≡ Multi
+    by Main kind is = absurd cc
+    by Multi kind is = kind
+    by Single kind is = absurd cc
+
+  pub due-some : is_nil x.blocks ≡ false
+  due-some = not-true (is_nil x.blocks) both.1
+
+  -- so it isn't to be deallocated
+  pub due-stays : is_vacant x ≡ false
+  due-stays = and_right (can_go x.kind) (is_nil x.blocks) due-some
 
 -- whether it is due by the units of all
 abbrev due_by : Settings → Content → ℕ → ℕ → Bool

@@ -1,11 +1,9 @@
 -- The release of a block where carriers don't migrate: by its carrier's owner, or on the way to it.
-use Rattle.std.specs.Prelude.{◌≡◌, ℕ, Bool, true, false, ◌==◌, ◌&&◌, Option, None, Some, IfSome, []}
+use Rattle.std.specs.Prelude.{◌≡◌, ℕ, Bool, true, false, ◌==◌, Option, None, Some}
 use Rattle.std.specs.Option.{option_map_or}
-use Rattle.std.proofs.Common.{refl, sym, ap, ◌∙◌, arith}
+use Rattle.std.proofs.Common.{refl, ap, ◌∙◌, arith}
 use Rattle.std.proofs.lemmas.Bool.{eqb-true}
-use Rattle.ea_model.specs.declared.carriers.Kind.{Kind}
-use Rattle.ea_model.specs.declared.carriers.Kind.TheVariants.{Main, Multi, Single}
-use Rattle.ea_model.specs.Content.{Content, can_go, is_nil, is_vacant}
+use Rattle.ea_model.specs.Content.{Content, is_vacant}
 use Rattle.ea_model.specs.Employment.{dismissing, disowning}
 use Rattle.ea_model.specs.Instance.{Instance, content_of, employed, owner_of, releasing_at}
 use Rattle.ea_model.proofs.Rising.{item_at-key}
@@ -17,7 +15,7 @@ use Rattle.ea_machine.specs.declared.tasks.Task.{Task}
 use Rattle.ea_machine.specs.declared.tasks.Task.TheVariants.{Freeing, Moving}
 use Rattle.ea_machine.specs.declared.tasks.Why.{Why}
 use Rattle.ea_machine.specs.Actor.{Actor}
-use Rattle.ea_machine.specs.Releases.{Turned, abandoned_if, after_release, after_release_by}
+use Rattle.ea_machine.specs.Releases.{Turned, abandoned_if, after_release}
 use Rattle.ea_machine.specs.Releases.{dismissed, leaving, leaving_by, lightened, owned_by, route_of}
 use Rattle.ea_machine.specs.Releases.{routed}
 use Rattle.ea_machine.specs.Setup.{Setup, migration}
@@ -55,29 +53,20 @@ module _ (setup : Setup) (me : ℕ) (off : migration setup ≡ false) (why : Why
           ap (λ own. comes (leaving_by setup me own (migration setup) x Here c)) own
           ∙ ap (λ on. comes (leaving_by setup me true on x Here c)) off
 
-      lightens : (empty : Bool) → comes (lightened setup me empty x Here b)
-          ≡ done (deallocated_if empty i x.number)
+      lightens : (vacant : Bool) → comes (lightened setup me vacant x Here b)
+          ≡ done (deallocated_if vacant i x.number)
       lightens true = leaves
       lightens false = ap (λ due. comes (abandoned_if due x Here b))
           (due-unmoved setup i.contents x off)
 
-      by-kind : (k : Kind) → (k ≡ Single → x.blocks ≡ [])
-          → comes (after_release_by setup me k x Here b)
-          ≡ done (deallocated_if (can_go k && is_nil x.blocks) i x.number)
-      by-kind Main emptied = refl
-      by-kind Multi emptied = lightens (is_nil x.blocks)
-      by-kind Single emptied = leaves
-          ∙ sym (ap (λ bs. done (deallocated_if (can_go Single && is_nil bs) i x.number))
-          (emptied refl))
-
     by-content : (i : Instance) (n : ℕ) → owner_of n ≡ me → (o : Option Content)
-        → content_of (employed i) n ≡ o → IfSome o (λ c. c.kind ≡ Single → c.blocks ≡ [])
+        → content_of (employed i) n ≡ o
         → comes (after_release setup me Open (record a { instance = i }) o)
         ≡ done (deallocated_if (option_map_or is_vacant o false) i n)
-    by-content i n mine None none emptied = alike (record a { instance = i })
-    by-content i n mine (Some x) there emptied =
+    by-content i n mine None none = alike (record a { instance = i })
+    by-content i n mine (Some x) there =
         let number = item_at-key number_of n x (employed i) there in
-        by-kind i x (ap owner_of number ∙ mine) x.kind emptied
+        lightens i x (ap owner_of number ∙ mine) (is_vacant x)
         ∙ ap (λ m. done (deallocated_if (is_vacant x) i m)) number
 
     module _ (hand : Named) where
@@ -91,13 +80,11 @@ module _ (setup : Setup) (me : ℕ) (off : migration setup ≡ false) (why : Why
 
       -- its owner releases the block at once
       pub released-here : (owner_of n == me) ≡ true
-          → IfSome (content_of (employed (releasing_at a.instance hand.spot)) n)
-          (λ c. c.kind ≡ Single → c.blocks ≡ [])
           → comes (route_of setup me hand a) ≡ done (freed_at a.instance hand.spot)
-      released-here own emptied =
+      released-here own =
           let i = releasing_at a.instance hand.spot in
           turns true own
-          ∙ by-content i n (eqb-true (owner_of n) me own) (content_of (employed i) n) refl emptied
+          ∙ by-content i n (eqb-true (owner_of n) me own) (content_of (employed i) n) refl
 
       -- another scheduler queues it to the owner
       pub released-away : (owner_of n == me) ≡ false

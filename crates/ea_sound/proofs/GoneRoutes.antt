@@ -3,9 +3,7 @@
 use Rattle.std.proofs.Common.{◌≡◌, ◌⊎◌, subst, ℕ, Bool, true, false, refl, sym, ap, ◌∙◌, inl, inr}
 use Rattle.std.specs.Prelude.{Option, None, Some, ◌==◌}
 use Rattle.std.proofs.lemmas.Bool.{eqb-true}
-use Rattle.ea_model.specs.declared.carriers.Kind.{Kind}
-use Rattle.ea_model.specs.declared.carriers.Kind.TheVariants.{Main, Multi, Single}
-use Rattle.ea_model.specs.Content.{Content, is_nil}
+use Rattle.ea_model.specs.Content.{Content, is_nil, is_vacant}
 use Rattle.ea_model.specs.Instance.{content_of, employed, releasing_at, owner_of}
 use Rattle.ea_model.specs.Abandonment.{is_due}
 use Rattle.ea_machine.specs.Releases.{struck}
@@ -20,7 +18,7 @@ use Rattle.ea_machine.specs.declared.nodes.Named.{Named}
 use Rattle.ea_machine.specs.declared.owners.OwnerWord.{OwnerWord}
 use Rattle.ea_machine.specs.declared.owners.OwnerWord.TheVariants as word
 use Rattle.ea_machine.specs.Nodes.{block_node}
-use Rattle.ea_machine.specs.Releases.{Turned, abandoned_if, after_release, after_release_by}
+use Rattle.ea_machine.specs.Releases.{Turned, abandoned_if, after_release}
 use Rattle.ea_machine.specs.Releases.{dismissed, employed_by, first_gone, forwarded, leaving_by}
 use Rattle.ea_machine.specs.Releases.{lightened, looked, looked_at, owned_by, pooled_by}
 use Rattle.ea_machine.specs.Releases.{release_here, route_of, routed, sent_to, settled, tried}
@@ -159,24 +157,17 @@ module _ (e : Setup) (me : ℕ) where
   abandoned-bare true x g a = tt
   abandoned-bare false x g a = tt
 
-  lightened-bare : (empty : Bool) (x : Content) (g : Gone) (a : Actor)
-      → IsBare (lightened e me empty x g a).route
+  lightened-bare : (vacant : Bool) (x : Content) (g : Gone) (a : Actor)
+      → IsBare (lightened e me vacant x g a).route
   lightened-bare true x g a =
       leaving-bare (owner_of x.number == me) (migration e) x g (dismissed x.number a)
   lightened-bare false x g a =
       abandoned-bare (is_due e.settings a.instance.contents x) x g a
 
-  by_kind-bare : (k : Kind) (x : Content) (g : Gone) (a : Actor)
-      → IsBare (after_release_by e me k x g a).route
-  by_kind-bare Main x g a = tt
-  by_kind-bare Multi x g a = lightened-bare (is_nil x.blocks) x g a
-  by_kind-bare Single x g a =
-      leaving-bare (owner_of x.number == me) (migration e) x g (dismissed x.number a)
-
   after-bare : (g : Gone) (a : Actor) (o : Option Content)
       → IsBare (after_release e me g a o).route
   after-bare g a None = tt
-  after-bare g a (Some x) = by_kind-bare x.kind x (first_gone g Here) a
+  after-bare g a (Some x) = lightened-bare (is_vacant x) x (first_gone g Here) a
 
   pub here-bare : (h : Named) (g : Gone) (a : Actor) → IsBare (release_here e me h g a).route
   here-bare h g a =
@@ -202,25 +193,18 @@ module _ (e : Setup) (me : ℕ) where
   abandoned-gone true x g a = refl
   abandoned-gone false x g a = refl
 
-  lightened-gone : (empty : Bool) (x : Content) (g : Gone) (a : Actor)
-      → (lightened e me empty x g a).gone ≡ g
+  lightened-gone : (vacant : Bool) (x : Content) (g : Gone) (a : Actor)
+      → (lightened e me vacant x g a).gone ≡ g
   lightened-gone true x g a =
       leaving-gone (owner_of x.number == me) (migration e) x g (dismissed x.number a)
   lightened-gone false x g a =
       abandoned-gone (is_due e.settings a.instance.contents x) x g a
 
-  by_kind-gone : (k : Kind) (x : Content) (g : Gone) (a : Actor)
-      → (after_release_by e me k x g a).gone ≡ g
-  by_kind-gone Main x g a = refl
-  by_kind-gone Multi x g a = lightened-gone (is_nil x.blocks) x g a
-  by_kind-gone Single x g a =
-      leaving-gone (owner_of x.number == me) (migration e) x g (dismissed x.number a)
-
   after-queued : (g : Gone) (a : Actor) (o : Option Content)
       → IsQueuedBy g (after_release e me g a o)
   after-queued g a None = still g (after_release e me g a None) refl
   after-queued g a (Some x) = released g (after_release e me g a (Some x))
-      (by_kind-gone x.kind x (first_gone g Here) a)
+      (lightened-gone (is_vacant x) x (first_gone g Here) a)
 
   here-queued : (h : Named) (g : Gone) (a : Actor) → IsQueuedBy g (release_here e me h g a)
   here-queued h g a =
@@ -313,7 +297,7 @@ module _ (e : Setup) (me : ℕ) where
       by b (content_of (employed b.instance) h.spot.carrier) where
         by : (b : Actor) (o : Option Content) → NotSent (after_release e me Open b o).gone
         by b None = tt
-        by b (Some x) = subst NotSent (sym (by_kind-gone x.kind x Here b)) tt
+        by b (Some x) = subst NotSent (sym (lightened-gone (is_vacant x) x Here b)) tt
 
   abbrev Gives : (ℕ → Type 0) → Type 0 → Named → Turned → Type 0
   Gives Shows Mine h t = Yields me Shows Mine h t.route t.gone

@@ -6,8 +6,6 @@ use Rattle.std.proofs.lemmas.Bool.{cases_eq, eqb-true, true≢false}
 use Rattle.std.proofs.lemmas.List.Elements.{All-append, All-cons, All-contains_itself, All-head}
 use Rattle.std.proofs.lemmas.List.Elements.{All-nil, All-tail, All-weaker}
 use Rattle.ea_model.specs.declared.carriers.CarrierPlan.{CarrierPlan}
-use Rattle.ea_model.specs.declared.carriers.Kind.{Kind}
-use Rattle.ea_model.specs.declared.carriers.Kind.TheVariants.{Main, Multi, Single}
 use Rattle.ea_model.specs.declared.carriers.Place.{Place}
 use Rattle.ea_model.specs.declared.carriers.Spot.{Spot}
 use Rattle.ea_model.specs.declared.entries.NoCarrier.{NoCarrier}
@@ -17,7 +15,7 @@ use Rattle.ea_model.specs.declared.reallocation.Decision.{Decision}
 use Rattle.ea_model.specs.declared.reallocation.Decision.TheVariants.{Stay, ShrinkHere, GrowHere}
 use Rattle.ea_model.specs.declared.reallocation.Decision.TheVariants.{ShrinkCarrier, Move}
 use Rattle.ea_model.specs.Abandonment.{is_due}
-use Rattle.ea_model.specs.Content.{Content, is_nil}
+use Rattle.ea_model.specs.Content.{Content, is_nil, is_vacant}
 use Rattle.ea_model.specs.Instance.{chosen_spot, content_of, creating, creating_single, decision_at}
 use Rattle.ea_model.specs.Instance.{employed, is_alone, owner_of, place_at, placing_at, plan}
 use Rattle.ea_model.specs.Instance.{releasing_at, single_place}
@@ -55,7 +53,7 @@ use Rattle.ea_machine.specs.Placements.{new_carrier, new_carrier_by, placed_by, 
 use Rattle.ea_machine.specs.Placements.{search_on, searched, searched_by, seek, seek_by}
 use Rattle.ea_machine.specs.Placements.{spot_of_place, stands}
 use Rattle.ea_machine.specs.Reallocations.{reallocated, reallocated_by}
-use Rattle.ea_machine.specs.Releases.{Turned, abandoned_if, after_release, after_release_by}
+use Rattle.ea_machine.specs.Releases.{Turned, abandoned_if, after_release}
 use Rattle.ea_machine.specs.Releases.{dismissed, employed_by, first_gone, forwarded, leaving_by}
 use Rattle.ea_machine.specs.Releases.{lightened, looked, looked_at, owned_by, pooled_by}
 use Rattle.ea_machine.specs.Releases.{release_here, route_of, routed, settled, struck, tried}
@@ -158,23 +156,16 @@ module _ (e : Setup) (w : State) (me : ℕ) where
   abandoned-tells true x g b = tt
   abandoned-tells false x g b = tt
 
-  lightened-tells : (empty : Bool) (x : Content) (g : Gone) (b : Actor)
-      → TellsNext (lightened e me empty x g b).route
+  lightened-tells : (vacant : Bool) (x : Content) (g : Gone) (b : Actor)
+      → TellsNext (lightened e me vacant x g b).route
   lightened-tells true x g b =
       leaving-tells (owner_of x.number == me) (migration e) x g (dismissed x.number b)
   lightened-tells false x g b = abandoned-tells (is_due e.settings b.instance.contents x) x g b
 
-  release-tells : (k : Kind) (x : Content) (g : Gone) (b : Actor)
-      → TellsNext (after_release_by e me k x g b).route
-  release-tells Main x g b = tt
-  release-tells Multi x g b = lightened-tells (is_nil x.blocks) x g b
-  release-tells Single x g b =
-      leaving-tells (owner_of x.number == me) (migration e) x g (dismissed x.number b)
-
   after_release-tells : (g : Gone) (b : Actor) (o : Option Content)
       → TellsNext (after_release e me g b o).route
   after_release-tells g b None = tt
-  after_release-tells g b (Some x) = release-tells x.kind x (first_gone g Here) b
+  after_release-tells g b (Some x) = lightened-tells (is_vacant x) x (first_gone g Here) b
 
   here-tells : (h : Named) (g : Gone) (b : Actor) → TellsNext (release_here e me h g b).route
   here-tells h g b = after_release-tells g (record b { instance = releasing_at b.instance h.spot })

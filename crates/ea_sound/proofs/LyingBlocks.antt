@@ -1,13 +1,9 @@
 -- A block of a name at its place: it lies there once it is placed or resized, and still does when
 -- another block of the instance is released.
 use Rattle.std.proofs.Common.{◌≡◌, ◌≢◌, ℕ, ◌≤◌, [], Bool, true, false, refl, sym, ap, ◌∙◌, subst}
-use Rattle.std.proofs.Common.{inl, inr, arith}
+use Rattle.std.proofs.Common.{arith}
 use Rattle.std.specs.Prelude.{Option, None, Some, ◌==◌}
-use Rattle.std.proofs.lemmas.Bool.{eqb-true, true≢false}
-use Rattle.ea_model.specs.declared.carriers.Kind.{Kind}
-use Rattle.ea_model.specs.declared.carriers.Kind.TheVariants.{Main, Multi, Single}
-use Rattle.ea_model.proofs.Options.{same-some}
-use Rattle.ea_laws.specs.Kinds.{is_shared}
+use Rattle.std.proofs.lemmas.Bool.{eqb-true}
 use Rattle.ea_laws.proofs.Changed.{released-keeps}
 use Rattle.ea_machine.specs.Actor.{Actor}
 use Rattle.ea_machine.specs.declared.tasks.Gone.{Gone}
@@ -15,15 +11,14 @@ use Rattle.ea_machine.specs.declared.tasks.Gone.TheVariants.{Here, Open}
 use Rattle.ea_machine.specs.declared.nodes.Named.{Named}
 use Rattle.ea_model.specs.Employment.{dismissing}
 use Rattle.ea_model.specs.Instance.{owner_of}
-use Rattle.ea_machine.specs.Releases.{abandoned_if, after_release, after_release_by, dismissed}
+use Rattle.ea_machine.specs.Releases.{abandoned_if, after_release, dismissed}
 use Rattle.ea_machine.specs.Releases.{first_gone, leaving_by, lightened, owned_by, release_here}
 use Rattle.ea_machine.specs.Releases.{route_of, routed}
 use Rattle.ea_machine.specs.Setup.{Setup, migration}
-use Rattle.ea_sound.proofs.Assembly.{nil-is}
+use Rattle.ea_sound.proofs.Assembly.{vacant-nil}
 use Rattle.ea_sound.proofs.BlockWeights.{block-rising}
-use Rattle.ea_sound.proofs.CarrierMoves.{found-laid, one-released}
 use Rattle.ea_sound.proofs.Hits.{HasBlock}
-use Rattle.ea_laws.proofs.Orderly.{changing-found, releasing-IsOrderly}
+use Rattle.ea_laws.proofs.Orderly.{releasing-IsOrderly}
 use Rattle.ea_sound.proofs.Unmoved.{due-unmoved}
 use Rattle.ea_model.specs.declared.carriers.BlockAt.{BlockAt}
 use Rattle.ea_model.specs.declared.carriers.CarrierPlan.{CarrierPlan}
@@ -32,8 +27,8 @@ use Rattle.ea_model.specs.declared.carriers.Spot.{Spot}
 use Rattle.ea_model.specs.declared.reallocation.Decision.{Decision}
 use Rattle.ea_model.specs.declared.reallocation.Decision.TheVariants.{Stay, ShrinkHere, GrowHere}
 use Rattle.ea_model.specs.declared.reallocation.Decision.TheVariants.{ShrinkCarrier, Move}
-use Rattle.ea_model.specs.Content.{Content, block_at, gap_at, gaps_of, is_nil, placed, released}
-use Rattle.ea_model.specs.Content.{taken_of}
+use Rattle.ea_model.specs.Content.{Content, block_at, gap_at, gaps_of, is_vacant, placed}
+use Rattle.ea_model.specs.Content.{released, taken_of}
 use Rattle.ea_model.specs.Instance.{Instance, content_of, creating_single, decision_at, employed}
 use Rattle.ea_model.specs.Instance.{place_at, placing_at, releasing_at, resized_to, resizing_at}
 use Rattle.ea_model.specs.Instance.{single_place, size_for}
@@ -202,11 +197,6 @@ module _ (e : Setup) (me : ℕ) (n : ℕ) (p : Place) (h : Named) (other : h.nam
       number : x.number ≡ h.spot.carrier
       number = item_at-key number_of h.spot.carrier x (employed j) there
 
-      is : x ≡ released c h.spot.offset
-      is = same-some (content_of (employed j) h.spot.carrier) x (released c h.spot.offset) there
-          (changing-found (λ x. released x h.spot.offset) (released-keeps h.spot.offset)
-          h.spot.carrier i c block.1)
-
       dismissed-lies : x.blocks ≡ [] → LiesWith n p (dismissing j x.number)
       dismissed-lies empty = omega (
         arith,
@@ -216,40 +206,24 @@ module _ (e : Setup) (me : ℕ) (n : ℕ) (p : Place) (h : Named) (other : h.nam
         ap (sum_over (lies n p x.number)) empty,
       )
 
-      alone-empty : x.kind ≡ Single → x.blocks ≡ []
-      alone-empty single = elim (found-laid i h.spot.carrier c order block.1) [
-        | inl many ↦ absurd (true≢false (sym many.shared ∙ ap is_shared (sym (kind is) ∙ single)))
-        | inr one ↦ ap (λ (y : Content). y.blocks) is
-            ∙ one-released c.units h.spot.offset c.blocks b one.block block.2.1
-      ] where
-        kind : {x y : Content} → x ≡ y → x.kind ≡ y.kind
-        kind q = ap (λ (y : Content). y.kind) q
-
       leaving-lies : (own on : Bool) (g : Gone) → x.blocks ≡ []
           → LiesWith n p (leaving_by e me own on x g (dismissed x.number after)).actor.instance
       leaving-lies false on g empty = dismissed-lies empty
       leaving-lies true true g empty = dismissed-lies empty
       leaving-lies true false g empty = dismissed-lies empty
 
-      lightened-lies : (nil : Bool) (g : Gone) → is_nil x.blocks ≡ nil
-          → LiesWith n p (lightened e me nil x g after).actor.instance
-      lightened-lies true g nil =
-          leaving-lies (owner_of x.number == me) (migration e) g (nil-is x.blocks nil)
-      lightened-lies false g nil =
+      lightened-lies : (vacant : Bool) (g : Gone) → is_vacant x ≡ vacant
+          → LiesWith n p (lightened e me vacant x g after).actor.instance
+      lightened-lies true g vacant =
+          leaving-lies (owner_of x.number == me) (migration e) g (vacant-nil x vacant)
+      lightened-lies false g full =
           subst (λ due. LiesWith n p (abandoned_if due x g after).actor.instance)
           (sym (due-unmoved e j.contents x off)) released-lies
-
-      by_kind-lies : (k : Kind) (g : Gone) → x.kind ≡ k
-          → LiesWith n p (after_release_by e me k x g after).actor.instance
-      by_kind-lies Main g kind = released-lies
-      by_kind-lies Multi g kind = lightened-lies (is_nil x.blocks) g refl
-      by_kind-lies Single g kind =
-          leaving-lies (owner_of x.number == me) (migration e) g (alone-empty kind)
 
     after-lies : (o : Option Content) → content_of (employed j) h.spot.carrier ≡ o
         → LiesWith n p (after_release e me Open after o).actor.instance
     after-lies None there = released-lies
-    after-lies (Some x) there = by_kind-lies x there x.kind (first_gone Open Here) refl
+    after-lies (Some x) there = lightened-lies x there (is_vacant x) (first_gone Open Here) refl
 
     here-lies : LiesWith n p (release_here e me h Open a).actor.instance
     here-lies = after-lies (content_of (employed j) h.spot.carrier) refl

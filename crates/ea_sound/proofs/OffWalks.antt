@@ -1,19 +1,18 @@
 -- A walk where carriers don't migrate: what it passed are blocks; one whose carrier the scheduler
 -- owns lies there, as does each block that it holds in such a carrier; and this stays so from node
 -- to node.
-use Rattle.std.proofs.Common.{◌≡◌, ℕ, ◌<◌, ◌≤◌, true, false, List, [], ◌∷◌, refl, sym, ap, ◌∙◌}
+use Rattle.std.proofs.Common.{◌≡◌, ℕ, ◌<◌, ◌≤◌, true, false, List, ◌∷◌, refl, sym, ap, ◌∙◌}
 use Rattle.std.proofs.Common.{subst, inr, arith}
 use Rattle.std.specs.Prelude.{All, Option, None, Some, IsSome}
 use Rattle.std.specs.Option.{option_and_then}
 use Rattle.std.proofs.lemmas.Bool.{true≢false}
 use Rattle.ea_model.specs.declared.carriers.BlockAt.{BlockAt}
-use Rattle.ea_model.specs.declared.carriers.Kind.TheVariants.{Single}
 use Rattle.ea_model.specs.declared.carriers.Spot.{Spot}
 use Rattle.ea_model.specs.declared.settings.Config.{Config}
 use Rattle.ea_model.specs.declared.trace.Trace.{Trace}
 use Rattle.ea_model.specs.Content.{Content, block_at}
 use Rattle.ea_model.specs.Instance.{block_in, content_of, employed, own_at, own_of}
-use Rattle.ea_model.specs.Instance.{releasing_at, owner_of}
+use Rattle.ea_model.specs.Instance.{owner_of}
 use Rattle.ea_model.specs.Settings.{IsValidConfig}
 use Rattle.ea_model.specs.Trace.{IsScheduler, IsValidTrace}
 use Rattle.ea_model.proofs.Merged.{merged-All}
@@ -24,11 +23,9 @@ use Rattle.ea_machine.specs.declared.nodes.Named.{Named}
 use Rattle.ea_machine.specs.declared.nodes.Node.{Node}
 use Rattle.ea_machine.specs.declared.nodes.Node.TheVariants.{Block, Carrier}
 use Rattle.ea_machine.specs.declared.tasks.Gone.{Gone}
-use Rattle.ea_machine.specs.declared.tasks.Gone.TheVariants.{Open}
 use Rattle.ea_machine.specs.declared.tasks.Why.TheVariants.{Walk}
-use Rattle.ea_machine.specs.declared.stages.Stage.TheVariants.{Begin, Routed}
+use Rattle.ea_machine.specs.declared.stages.Stage.TheVariants.{Begin}
 use Rattle.ea_machine.specs.declared.stages.Route.{Route}
-use Rattle.ea_machine.specs.declared.stages.Route.TheVariants.{Looking}
 use Rattle.ea_machine.specs.Actor.{Actor}
 use Rattle.ea_machine.specs.Machine.{IsReached, begins}
 use Rattle.ea_machine.specs.Nodes.{named_at}
@@ -134,18 +131,6 @@ module _ (e : Setup) (v : State) (s : Shared) (me : ℕ) (is : is_scheduler e me
 
       pub passed-own : owner_of p.carrier ≡ me → IsSome (own_at a.instance.own p.carrier)
       passed-own owned = stands-own n p (passed-stands n p ns a passed) owned
-
-      in_hand : V (at (Routed (Looking (record { name = n; spot = p })) Walk Open)
-          (record a { passed = ns }))
-      in_hand = (closed-walk e v s me is).block (record { name = n; spot = p }) ns a
-          (subst (λ ms. V (at Begin (record a { passed = ms }))) passed walks)
-
-      -- a singleblock carrier is empty without it
-      pub passed-emptied : owner_of p.carrier ≡ me → (x : Content)
-          → content_of (employed (releasing_at a.instance p)) p.carrier ≡ Some x
-          → x.kind ≡ Single → x.blocks ≡ []
-      passed-emptied owned x = closes.emptied (record { name = n; spot = p }) Walk Open x
-          (record a { passed = ns }) (inr (off, owned)) in_hand
 
     -- no carrier is passed
     pub passed-carrier : (c : ℕ) (ns : List Node) → a.passed ≡ Carrier c ∷ ns → ⊥

@@ -25,8 +25,9 @@ use Rattle.ea_machine.specs.declared.stages.Stage.TheVariants.{Begin, Routed, Co
 use Rattle.ea_machine.specs.declared.stages.Route.TheVariants.{Clearing, Pushing, Linking}
 use Rattle.ea_machine.specs.declared.stages.Stage.TheVariants.{Searching, Fetching, Creating}
 use Rattle.ea_machine.specs.declared.stages.Stage.TheVariants.{Giving, Taking, Ended, Ready}
-use Rattle.ea_machine.specs.Outcome.{Present, owned_place, place_in, place_of}
+use Rattle.ea_machine.specs.Outcome.{Present, place_in, place_of}
 use Rattle.ea_machine.specs.Outcome.{present_at, present_if, settling_at}
+use Rattle.ea_machine.specs.Owners.{employed_if}
 use Rattle.ea_machine.specs.Setup.{Setup, is_scheduler, migration}
 use Rattle.ea_machine.specs.State.{State}
 use Rattle.ea_machine.specs.Statistics.{employed_multis, employed_singles, is_single}
@@ -181,14 +182,14 @@ module _ (e : Setup) (w : State) (rule : Rule e w) (off : migration e ≡ false)
       used = used-by (own_at j.own c) (content_of (employed j) c) refl refl
 
     place : (c : ℕ) → owner_of c ≡ i
-        → place_of e w c ≡ owned_place e w (is_some (content_of (employed j) c)) i
+        → place_of e w c ≡ employed_if (is_some (content_of (employed j) c)) i
     place c own = ap (λ b. place_in e w b c) off
-        ∙ ap (λ k. owned_place e w (is_used c (w.actors k).instance.own) k) own
-        ∙ ap (λ b. owned_place e w b i) (used c own)
+        ∙ ap (λ k. employed_if (is_used c (w.actors k).instance.own) k) own
+        ∙ ap (λ b. employed_if b i) (used c own)
 
     shown : (c : ℕ) (o : Option Content)
         → content_of (employed_multis a ++ employed_singles a) c ≡ o
-        → present_at e w c (owned_place e w (is_some o) i) ≡ if_there (at_home i) o
+        → present_at e w c (employed_if (is_some o) i) ≡ if_there (at_home i) o
     shown c None none = refl
     shown c (Some x) there = ap (λ o. present_if o standing.Employed i) there
 

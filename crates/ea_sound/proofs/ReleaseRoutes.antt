@@ -1,8 +1,8 @@
 -- What the release of a block, and the way of its carrier, leave to a scheduler.
-use Rattle.std.proofs.Common.{◌≡◌, ◌≢◌, ◌⊎◌, ℕ, ◌+◌, ◌≤◌, List, [], ◌∷◌, Bool, true, false, ◌&&◌}
+use Rattle.std.proofs.Common.{◌≡◌, ◌≢◌, ◌⊎◌, ℕ, ◌+◌, ◌≤◌, List, [], ◌∷◌, Bool, true, false}
 use Rattle.std.proofs.Common.{refl, sym, ap, ◌∙◌, subst, inl, inr, arith}
 use Rattle.std.specs.Prelude.{Option, None, Some, ◌==◌}
-use Rattle.std.proofs.lemmas.Bool.{cases_Bool, eqb-false, eqb-true, true≢false}
+use Rattle.std.proofs.lemmas.Bool.{and_parts, cases_Bool, eqb-false, eqb-true, true≢false}
 use Rattle.ea_model.specs.declared.carriers.BlockAt.{BlockAt}
 use Rattle.ea_model.specs.declared.carriers.Kind.{Kind}
 use Rattle.ea_model.specs.declared.carriers.Kind.TheVariants.{Main, Multi, Single}
@@ -24,15 +24,16 @@ use Rattle.ea_machine.specs.declared.tasks.Gone.TheVariants.{Open, Here}
 use Rattle.ea_model.specs.Employment.{dismissing}
 use Rattle.ea_sound.specs.Names.{unplaced_by}
 use Rattle.ea_machine.specs.declared.nodes.Named.{Named}
-use Rattle.ea_machine.specs.Releases.{Turned, abandoned_if, after_release, after_release_by}
-use Rattle.ea_machine.specs.Releases.{dismissed, disowned, first_gone, leaving, leaving_by}
+use Rattle.ea_machine.specs.Releases.{Turned, abandoned_if, after_release}
+use Rattle.ea_machine.specs.Releases.{dismissed, disowned, first_gone, leaving_by}
 use Rattle.ea_machine.specs.Releases.{lightened, owned_by, release_here, route_of, routed, sent_to}
 use Rattle.ea_machine.specs.Setup.{Setup, is_scheduler, migration}
 use Rattle.ea_machine.specs.Shared.{Shared}
 use Rattle.ea_sound.specs.Blocks.{EmploysMain}
 use Rattle.ea_sound.specs.Present.{OfWhy}
 use Rattle.ea_sound.specs.Rule.{Standing}
-use Rattle.ea_sound.proofs.Assembly.{nil-is}
+use Rattle.ea_sound.proofs.Assembly.{vacant-nil}
+use Rattle.ea_sound.proofs.Due.{due-multi, due-some}
 use Rattle.ea_sound.proofs.EmployedWeights.{employed_sum-dismissing}
 use Rattle.ea_sound.proofs.FewBlocks.{Counting, all_named, blocks_named, releasing-fewer}
 use Rattle.ea_sound.proofs.KeyedWeights.{changed-missing}
@@ -48,15 +49,10 @@ not_nil-is [] e = absurd cc
 not_nil-is (b ∷ bs) e = λ q. cc
 
 -- what is known of the carrier of a block before the release: a scheduler owns a singleblock
--- carrier, and what it employs where carriers don't migrate; and the one block of a singleblock
--- carrier goes
+-- carrier, and what it employs where carriers don't migrate
 abbrev pub IsOwn : Setup → ℕ → Spot → Instance → Type 0
 IsOwn e me p i = (z : Content) → content_of (employed i) p.carrier ≡ Some z
     → (z.kind ≡ Single) ⊎ (migration e ≡ false) → owner_of z.number ≡ me
-
-abbrev pub IsEmptied : Setup → Spot → Instance → Type 0
-IsEmptied e p i = (z : Content) → content_of (employed i) p.carrier ≡ Some z → z.kind ≡ Single
-    → migration e ≡ true → (released z p.offset).blocks ≡ []
 
 -- the carrier that is found after a release was there before
 found-released : (i : Instance) (spot : Spot) (x : Content)
@@ -223,53 +219,51 @@ module _ (e : Setup) (s : Shared) (me : ℕ) (home bound : Counting → ℕ) (y 
       stays full = kept (λ z is. subst (λ v. is_vacant v ≡ false) (only_x z is) full)
 
       abandoned-good : (due : Bool) (g : Gone) → is_due e.settings j.contents x ≡ due
-          → x.kind ≡ Multi → is_nil x.blocks ≡ false → IsGood (abandoned_if due x g after)
-      abandoned-good true g due multi full =
+          → is_vacant x ≡ false → IsGood (abandoned_if due x g after)
+      abandoned-good true g due full =
+          let multi = due-multi e.settings j.contents x due in
+          let some = due-some e.settings j.contents x due in
           let on : migration e ≡ true = elim (cases_Bool (migration e)) [
             | inl on ↦ on
             | inr off ↦ absurd (true≢false (sym due ∙ due-unmoved e j.contents x off))
           ] in
-          (in_hand (ap can_go multi) on, ((multi, not_nil-is x.blocks full, on), why))
-      abandoned-good false g due multi full =
-          (stays (ap (λ k. can_go k && is_nil x.blocks) multi ∙ full), why)
+          (in_hand (ap can_go multi) on, ((multi, not_nil-is x.blocks some, on), why))
+      abandoned-good false g due full = (stays full, why)
 
       module _ (own : (x.kind ≡ Single) ⊎ (migration e ≡ false) → owner_of x.number ≡ me) where
-        leaves : (g : Gone) → can_go x.kind ≡ true
-            → ((owner_of x.number == me) ≡ false → (x.kind ≡ Multi) × (migration e ≡ true))
-            → (migration e ≡ true → x.blocks ≡ [])
-            → IsGood (leaving e me x g (dismissed x.number after))
-        leaves g go multi empty = leaving-good (owner_of x.number == me) (migration e) x g
-            (dismissed x.number after) refl refl go multi empty (in_hand go) (cleared go) why
+        -- what isn't its own is a multiblock carrier
+        multi : can_go x.kind ≡ true → (owner_of x.number == me) ≡ false
+            → (x.kind ≡ Multi) × (migration e ≡ true)
+        multi go other = (by x.kind refl go, elim (cases_Bool (migration e)) [
+          | inl on ↦ on
+          | inr off ↦ absurd (not (own (inr off)))
+        ]) where
+          not : owner_of x.number ≢ me
+          not = eqb-false (owner_of x.number) me other
 
-        lightened-good : (empty : Bool) (g : Gone) → is_nil x.blocks ≡ empty → x.kind ≡ Multi
-            → IsGood (lightened e me empty x g after)
-        lightened-good true g nil multi = leaves g (ap can_go multi)
-            (λ other. elim (cases_Bool (migration e)) [
-              | inl on ↦ (multi, on)
-              | inr off ↦ absurd (eqb-false (owner_of x.number) me other (own (inr off)))
-            ]) (λ on. nil-is x.blocks nil)
-        lightened-good false g nil multi = abandoned-good _ g refl multi nil
+          by : (k : Kind) → x.kind ≡ k → can_go k ≡ true → x.kind ≡ Multi
+          by Main kind go = absurd cc
+          by Multi kind go = kind
+          by Single kind go = absurd (not (own (inl kind)))
 
-        released-good : (k : Kind) (g : Gone) → x.kind ≡ k
-            → (x.kind ≡ Single → migration e ≡ true → x.blocks ≡ [])
-            → IsGood (after_release_by e me k x g after)
-        released-good Main g kind empty = (stays (ap (λ k. can_go k && is_nil x.blocks) kind), why)
-        released-good Multi g kind empty = lightened-good (is_nil x.blocks) g refl kind
-        released-good Single g kind empty = leaves g (ap can_go kind)
-            (λ other. absurd (eqb-false (owner_of x.number) me other (own (inl kind))))
-            (empty kind)
+        lightened-good : (vacant : Bool) (g : Gone) → is_vacant x ≡ vacant
+            → IsGood (lightened e me vacant x g after)
+        lightened-good true g vacant =
+            let go = (and_parts (can_go x.kind) (is_nil x.blocks) vacant).0 in
+            leaving-good (owner_of x.number == me) (migration e) x g (dismissed x.number after)
+            refl refl go (multi go) (λ on. vacant-nil x vacant) (in_hand go) (cleared go) why
+        lightened-good false g full =
+            abandoned-good (is_due e.settings j.contents x) g refl full
 
     at-good : (g : Gone) (o : Option Content) → content_of (employed j) c ≡ o
-        → IsOwn e me h.spot i → IsEmptied e h.spot i
-        → IsGood (after_release e me g after o)
-    at-good g None is own empty = (kept (λ x there. absurd (no x (sym is ∙ there))), why) where
+        → IsOwn e me h.spot i → IsGood (after_release e me g after o)
+    at-good g None is own = (kept (λ x there. absurd (no x (sym is ∙ there))), why) where
       no : (x : Content) → None ≡ Some x → ⊥
       no x q = cc
-    at-good g (Some x) is own empty =
+    at-good g (Some x) is own =
         let t = found-released i h.spot x is in
-        released-good x is (λ k. by t.0 x t.2 (own t.0 t.1) k) x.kind (first_gone g Here) refl
-        (λ k on. ap (λ (v : Content). v.blocks) t.2
-        ∙ empty t.0 t.1 (sym (ap (λ (v : Content). v.kind) t.2) ∙ k) on) where
+        lightened-good x is (λ k. by t.0 x t.2 (own t.0 t.1) k) (is_vacant x) (first_gone g Here)
+        refl where
           by : (z x : Content) → x ≡ released z h.spot.offset
               → ((z.kind ≡ Single) ⊎ (migration e ≡ false) → owner_of z.number ≡ me)
               → (x.kind ≡ Single) ⊎ (migration e ≡ false) → owner_of x.number ≡ me
@@ -277,9 +271,8 @@ module _ (e : Setup) (s : Shared) (me : ℕ) (home bound : Counting → ℕ) (y 
               ∙ own (inl (sym (ap (λ (v : Content). v.kind) q) ∙ k))
           by z x q own (inr off) = ap (λ (v : Content). owner_of v.number) q ∙ own (inr off)
 
-    pub here-good : (g : Gone) → IsOwn e me h.spot i → IsEmptied e h.spot i
-        → IsGood (release_here e me h g a)
-    here-good g own empty = at-good g (content_of (employed j) c) refl own empty
+    pub here-good : (g : Gone) → IsOwn e me h.spot i → IsGood (release_here e me h g a)
+    here-good g own = at-good g (content_of (employed j) c) refl own
 
   pub sent-good : (h : Named) (to : ℕ) (g : Gone) (a : Actor) → to ≢ me
       → (is_scheduler e to ≡ true) ⊎ ((migration e ≡ false) × (to ≡ owner_of h.spot.carrier))
@@ -293,7 +286,6 @@ module _ (e : Setup) (s : Shared) (me : ℕ) (home bound : Counting → ℕ) (y 
       (λ z there single. employed-owner a.instance (b.core.stands off)
       (off-acul e a.instance off b.own.settings) h.spot.carrier z there
       ∙ b.own.number)
-      (λ z there single on. absurd (true≢false (sym on ∙ off)))
   owned-good false h a off o b why =
       sent-good h (owner_of h.spot.carrier) Open a (eqb-false (owner_of h.spot.carrier) me o)
       (inr (off, refl)) b why

@@ -4,11 +4,9 @@ use Rattle.std.proofs.Common.{◌∙◌, subst, inl, inr, arith}
 use Rattle.std.specs.Prelude.{◌==◌}
 use Rattle.std.proofs.lemmas.Bool.{eqb-false, eqb-true, true≢false}
 use Rattle.ea_model.specs.declared.carriers.Kind.TheVariants.{Multi, Single}
-use Rattle.ea_model.specs.declared.carriers.Spot.{Spot}
 use Rattle.ea_model.specs.declared.operations.Op.{Op}
 use Rattle.ea_model.specs.Content.{Content, can_go, is_nil, released}
 use Rattle.ea_model.specs.Instance.{owner_of}
-use Rattle.ea_laws.specs.Kinds.{is_shared}
 use Rattle.ea_machine.specs.Releases.{struck}
 use Rattle.ea_machine.specs.declared.owners.OwnerWord.{OwnerWord}
 use Rattle.ea_machine.specs.declared.owners.OwnerWord.TheVariants as word
@@ -32,22 +30,19 @@ use Rattle.ea_machine.specs.Shared.{Shared, at_place}
 use Rattle.ea_machine.specs.State.{State}
 use Rattle.ea_machine.specs.Table.{answer, effect, moved_if, pooled, settled_at, won_if}
 use Rattle.ea_sound.specs.Contents.{home_sum, slots}
-use Rattle.ea_sound.specs.Names.{of_hand, only_at, unplaced_by}
+use Rattle.ea_sound.specs.Names.{unplaced_by}
 use Rattle.ea_sound.specs.Present.{Fits, FitsRoute, HasEmployer, HasOther, OfWhy, Rule, StillPooled}
-use Rattle.ea_sound.specs.Rule.{Kept, names_of}
+use Rattle.ea_sound.specs.Rule.{Kept}
 use Rattle.ea_sound.proofs.Assembly.{nil-is}
-use Rattle.ea_sound.proofs.BlockWeights.{only_at-itself}
-use Rattle.ea_sound.proofs.CarrierMoves.{found-laid, one-released}
 use Rattle.ea_sound.proofs.Employers.{busy-scheduler, employed-scheduler, there-on}
 use Rattle.ea_sound.proofs.FewBlocks.{Counting, blocks_named, released-fewer}
 use Rattle.ea_sound.proofs.Hits.{found-belongs}
 use Rattle.ea_sound.proofs.Homes.{pooled-slot}
 use Rattle.ea_sound.proofs.OtherRows.{linked-first, linked-rest, tried-there}
-use Rattle.ea_sound.proofs.ReleaseRoutes.{IsEmptied, IsOwn, here-good, leaving-good, sent-good}
+use Rattle.ea_sound.proofs.ReleaseRoutes.{IsOwn, here-good, leaving-good, sent-good}
 use Rattle.ea_sound.proofs.RouteLeaves.{not_seen}
 use Rattle.ea_sound.proofs.RowCores.{bound_of, core, disowned-bare, hand_named, home_of, own}
 use Rattle.ea_sound.proofs.RowCores.{put-more, seat, still}
-use Rattle.ea_sound.proofs.StandingBlocks.{hit-found}
 use Rattle.ea_sound.proofs.Suits.{Bare, CoreOf, TurnedGood}
 use Rattle.ea_sound.proofs.Totals.{total-put}
 
@@ -97,20 +92,10 @@ module _ (e : Setup) (w : State) (me : ℕ) (is : is_scheduler e me ≡ true) (r
       own = own e w me is rule;
     }
 
-  -- the block in the hand stands
-  module _ (h : Named) (r : Route Content) (now : a.stage ≡ Routed r y g)
-      (names : (f : ℕ → Spot → ℕ) → of_hand f (Routed r y g) ≡ f h.name h.spot)
-      (on : migration e ≡ true) where
+  -- the block in the hand, where carriers migrate
+  module _ (h : Named) (on : migration e ≡ true) where
     abbrev c : ℕ
     c = h.spot.carrier
-
-    stands : 1 ≤ names_of (only_at h.name h.spot) a
-    stands = omega (
-      arith,
-      ap (of_hand (only_at h.name h.spot)) now,
-      names (only_at h.name h.spot),
-      only_at-itself h.name h.spot,
-    )
 
     owns : IsOwn e me h.spot a.instance
     owns z there single =
@@ -121,15 +106,6 @@ module _ (e : Setup) (w : State) (me : ℕ) (is : is_scheduler e me ≡ true) (r
             | inr mine ↦ sym belongs.owner ∙ mine
           ]
           | inr off ↦ absurd (true≢false (sym on ∙ off))
-        ]
-
-    empties : IsEmptied e h.spot a.instance
-    empties z there single on =
-        let (b, at, named) = hit-found e w k me (seat e w me is rule) a refl h.name
-        h.spot stands z there in
-        elim (found-laid a.instance c z (own e w me is rule).order there) [
-          | inl many ↦ absurd (true≢false (sym many.shared ∙ ap is_shared single))
-          | inr one ↦ one-released z.units h.spot.offset z.blocks b one.block at
         ]
 
     sent : (i : ℕ) → i ≢ me → is_scheduler e i ≡ true → BareAt w.shared → OfWhy y a.todo
@@ -150,13 +126,13 @@ module _ (e : Setup) (w : State) (me : ℕ) (is : is_scheduler e me ≡ true) (r
     b = bare r now (λ n. refl)
 
     go : (i : ℕ) → i ≢ me → is_scheduler e i ≡ true → IsRoute w.shared (sent_to h i g a)
-    go i other scheduler = sent h r now (λ f. refl) on i other scheduler b (why r now)
+    go i other scheduler = sent h on i other scheduler b (why r now)
 
     employed : (i : ℕ) (mine : Bool) → (i == me) ≡ mine
         → w.shared.places h.spot.carrier ≡ Employed i
         → IsRoute w.shared (employed_by e me mine i h g a)
     employed i true q there = here-good e w.shared me (home_of e w.shared) (bound_of e w me) y h a b
-        (why r now) g (owns h r now (λ f. refl) on) (empties h r now (λ f. refl) on)
+        (why r now) g (owns h on)
     employed i false q there =
         go i (eqb-false i me q) (employed-scheduler e w k h.spot.carrier i there)
 
@@ -196,7 +172,7 @@ module _ (e : Setup) (w : State) (me : ℕ) (is : is_scheduler e me ≡ true) (r
 
         go : (i : ℕ) → i ≢ me → is_scheduler e i ≡ true → IsRoute w.shared (sent_to h i g a)
         go i other scheduler =
-            sent h r now (λ f. refl) on i other scheduler (bare r now (λ n. refl)) (why r now)
+            sent h on i other scheduler (bare r now (λ n. refl)) (why r now)
 
         by : (p : CarrierAt) → w.shared.places h.spot.carrier ≡ p
             → StillPooled me seen p ⊎ HasOther me p → (b : Bool) → same_word (word_of p) seen ≡ b

@@ -1,13 +1,11 @@
 -- Once it is settled what became of a block, a release route leaves it so.
 use Rattle.std.proofs.Common.{◌≡◌, ◌⊎◌, ℕ, Bool, true, false, refl, ◌∙◌, inl, inr}
 use Rattle.std.specs.Prelude.{Option, Some, None, ◌==◌}
-use Rattle.ea_model.specs.declared.carriers.Kind.{Kind}
-use Rattle.ea_model.specs.declared.carriers.Kind.TheVariants.{Main, Multi, Single}
 use Rattle.ea_model.specs.Abandonment.{is_due}
-use Rattle.ea_model.specs.Content.{Content, is_nil}
+use Rattle.ea_model.specs.Content.{Content, is_nil, is_vacant}
 use Rattle.ea_model.specs.Instance.{content_of, employed, releasing_at, owner_of}
 use Rattle.ea_machine.specs.Actor.{Actor}
-use Rattle.ea_machine.specs.Releases.{Turned, abandoned_if, after_release, after_release_by}
+use Rattle.ea_machine.specs.Releases.{Turned, abandoned_if, after_release}
 use Rattle.ea_machine.specs.Releases.{dismissed, employed_by, first_gone, forwarded, leaving_by}
 use Rattle.ea_machine.specs.Releases.{lightened, looked, looked_at, pooled_by, release_here}
 use Rattle.ea_machine.specs.Releases.{settled, struck, tried, turned}
@@ -50,17 +48,10 @@ module _ (e : Setup) (me : ℕ) where
       leaving-gone (owner_of x.number == me) (migration e) x g (dismissed x.number a)
   lightened-gone false x g a = abandoned-gone (is_due e.settings a.instance.contents x) x g a
 
-  release-gone : (k : Kind) (x : Content) (g : Gone) (a : Actor)
-      → (after_release_by e me k x g a).gone ≡ g
-  release-gone Main x g a = refl
-  release-gone Multi x g a = lightened-gone (is_nil x.blocks) x g a
-  release-gone Single x g a =
-      leaving-gone (owner_of x.number == me) (migration e) x g (dismissed x.number a)
-
   -- a block that nothing became of is released
   after-released : (a : Actor) (o : Option Content) → IsReleased (after_release e me Open a o)
   after-released a None = inr (refl, refl)
-  after-released a (Some x) = inl (release-gone x.kind x Here a)
+  after-released a (Some x) = inl (lightened-gone (is_vacant x) x Here a)
 
   pub here-released : (h : Named) (a : Actor) → IsReleased (release_here e me h Open a)
   here-released h a =
@@ -71,7 +62,7 @@ module _ (e : Setup) (me : ℕ) where
   module _ (g : Gone) (is : IsSettled g) where
     after-gone : (a : Actor) (o : Option Content) → (after_release e me g a o).gone ≡ g
     after-gone a None = refl
-    after-gone a (Some x) = release-gone x.kind x (first_gone g Here) a ∙ is Here
+    after-gone a (Some x) = lightened-gone (is_vacant x) x (first_gone g Here) a ∙ is Here
 
     here-gone : (h : Named) (a : Actor) → (release_here e me h g a).gone ≡ g
     here-gone h a = after-gone (record a { instance = releasing_at a.instance h.spot })

@@ -1,9 +1,7 @@
 -- Release routes are short, and leave alone what is no part of them.
 use Rattle.std.proofs.Common.{◌≡◌, ℕ, ◌<◌, ◌≤◌, Bool, true, false, refl, ◌∙◌, arith}
 use Rattle.std.specs.Prelude.{Option, Some, None, ◌==◌}
-use Rattle.ea_model.specs.declared.carriers.Kind.{Kind}
-use Rattle.ea_model.specs.declared.carriers.Kind.TheVariants.{Main, Multi, Single}
-use Rattle.ea_model.specs.Content.{Content, is_nil}
+use Rattle.ea_model.specs.Content.{Content, is_nil, is_vacant}
 use Rattle.ea_model.specs.Instance.{content_of, employed, releasing_at, owner_of}
 use Rattle.ea_model.specs.Abandonment.{is_due}
 use Rattle.ea_machine.specs.Releases.{struck}
@@ -18,7 +16,7 @@ use Rattle.ea_machine.specs.declared.tasks.Gone.{Gone}
 use Rattle.ea_machine.specs.declared.tasks.Gone.TheVariants.{Open, Here}
 use Rattle.ea_machine.specs.Completion.{route_rows}
 use Rattle.ea_machine.specs.declared.nodes.Named.{Named}
-use Rattle.ea_machine.specs.Releases.{Turned, abandoned_if, after_release, after_release_by}
+use Rattle.ea_machine.specs.Releases.{Turned, abandoned_if, after_release}
 use Rattle.ea_machine.specs.Releases.{employed_by, first_gone, forwarded, leaving_by, lightened}
 use Rattle.ea_machine.specs.Releases.{looked, looked_at, owned_by, pooled_by, release_here}
 use Rattle.ea_machine.specs.Releases.{route_of, routed, settled, tried, turned}
@@ -74,16 +72,10 @@ module _ (e : Setup) (me : ℕ) where
   lightened-short true x g a = leaving-short (owner_of x.number == me) (migration e) x g _
   lightened-short false x g a = abandoned-short (is_due e.settings a.instance.contents x) x g a
 
-  release-short : (k : Kind) (x : Content) (g : Gone) (a : Actor)
-      → Short 3 a (after_release_by e me k x g a)
-  release-short Main x g a = (omega arith, same a)
-  release-short Multi x g a = lightened-short (is_nil x.blocks) x g a
-  release-short Single x g a = leaving-short (owner_of x.number == me) (migration e) x g _
-
   after_release-short : (g : Gone) (a : Actor) (x : Option Content)
       → Short 3 a (after_release e me g a x)
   after_release-short g a None = (omega arith, same a)
-  after_release-short g a (Some x) = release-short x.kind x (first_gone g Here) a
+  after_release-short g a (Some x) = lightened-short (is_vacant x) x (first_gone g Here) a
 
   pub here-short : (h : Named) (g : Gone) (a : Actor) → Short 3 a (release_here e me h g a)
   here-short h g a = after_release-short g (record a { instance = releasing_at a.instance h.spot })

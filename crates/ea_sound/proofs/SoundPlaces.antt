@@ -15,8 +15,9 @@ use Rattle.ea_machine.specs.declared.stages.Route.TheVariants.{Pushing, Linking}
 use Rattle.ea_machine.specs.Actor.{Actor}
 use Rattle.ea_sound.specs.Contents.{AtHome, InHand, OnRoute, seats, sum_everywhere}
 use Rattle.ea_sound.specs.NodePlaces.{anywhere}
-use Rattle.ea_machine.specs.Outcome.{owned_place, place_in, place_of}
+use Rattle.ea_machine.specs.Outcome.{place_in, place_of}
 use Rattle.ea_machine.specs.Owners.{CarrierAt, Absent, Employed, Pooled, Busy, Returning}
+use Rattle.ea_machine.specs.Owners.{employed_if}
 use Rattle.ea_sound.specs.Places.{AreInOnePlace, IsMulti, IsMultiOrOwn, IsNumber, PlacesCarriers}
 use Rattle.ea_sound.specs.Places.{RecordsGaps, StayWithOwners, busy_count, employed_count}
 use Rattle.ea_sound.specs.Places.{has_number, is_there, none}
@@ -45,10 +46,10 @@ module _ (e : Setup) (w : State) (k : Kept e w) where
   is_owned c = is_used c (w.actors (owner_of c)).instance.own
 
   pub place-off : (c : ℕ) → migration e ≡ false
-      → place_of e w c ≡ owned_place e w (is_owned c) (owner_of c)
+      → place_of e w c ≡ employed_if (is_owned c) (owner_of c)
   place-off c off = ap (λ b. place_in e w b c) off
 
-  owned-there : (b : Bool) (i : ℕ) → one_if (is_there (owned_place e w b i)) ≡ one_if b
+  owned-there : (b : Bool) (i : ℕ) → one_if (is_there (employed_if b i)) ≡ one_if b
   owned-there true i = refl
   owned-there false i = refl
 
@@ -59,7 +60,7 @@ module _ (e : Setup) (w : State) (k : Kept e w) where
         ∙ ap (λ p. one_if (is_there p)) (sym (place-off c off))
   ]
 
-  owned-employer : (b : Bool) (j i : ℕ) → owned_place e w b j ≡ Employed i → (b ≡ true) × (j ≡ i)
+  owned-employer : (b : Bool) (j i : ℕ) → employed_if b j ≡ Employed i → (b ≡ true) × (j ≡ i)
   owned-employer true j i is = (refl, cc)
   owned-employer false j i is = absurd cc
 
@@ -102,7 +103,7 @@ module _ (e : Setup) (w : State) (k : Kept e w) where
 
   -- a carrier that isn't with its employer is one of those that migrate
   owned-not : (p : CarrierAt) → ((i : ℕ) → p ≢ Employed i) → p ≢ Absent → (b : Bool) (j : ℕ)
-      → owned_place e w b j ≡ p → ⊥
+      → employed_if b j ≡ p → ⊥
   owned-not p employed absent true j is = employed j (sym is)
   owned-not p employed absent false j is = absent (sym is)
 

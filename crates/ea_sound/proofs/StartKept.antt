@@ -21,12 +21,12 @@ use Rattle.ea_machine.specs.declared.nodes.Node.{Node}
 use Rattle.ea_machine.specs.Actor.{Actor}
 use Rattle.ea_sound.specs.Contents.{AtHome, InHand, hand_sum, home_sum, seats, slots}
 use Rattle.ea_machine.specs.Machine.{first_actor, first_place, first_stage, instance_by, is_main}
-use Rattle.ea_machine.specs.Machine.{place_by, start}
+use Rattle.ea_machine.specs.Machine.{start}
 use Rattle.ea_sound.specs.Names.{allocated, of_content, of_hand, of_mark, only}
 use Rattle.ea_sound.specs.NodePlaces.{of_carrier_actor, of_carrier_hand, of_carrier_mark, of_link}
 use Rattle.ea_sound.specs.NodePlaces.{of_unlinked}
 use Rattle.ea_machine.specs.Nodes.{Mark}
-use Rattle.ea_machine.specs.Owners.{Absent, Pooled, Returning}
+use Rattle.ea_machine.specs.Owners.{Absent, Pooled, Returning, employed_if}
 use Rattle.ea_sound.specs.Ranges.{IsLaidOutAsKind}
 use Rattle.ea_machine.specs.Setup.{Setup, first_page, is_scheduler, migration, setup_of}
 use Rattle.ea_machine.specs.Sums.{sum_over, total_at}
@@ -114,7 +114,7 @@ module _ (e : Setup) where
 
   -- the place of each main carrier names its owner
   place-weighs : (h k : ℕ → ℕ → ℕ) (c o : ℕ) (b : Bool)
-      → employed_at h k c (place_by e b o) ≡ weight_if b (k o c)
+      → employed_at h k c (employed_if b o) ≡ weight_if b (k o c)
   place-weighs h k c o true = refl
   place-weighs h k c o false = refl
 
@@ -122,7 +122,7 @@ module _ (e : Setup) where
     main-weighs : (c o : ℕ) → owner_of c ≡ o → c ≡ first_number o
         → employed_at h k c (first_place e c) ≡ weight_if (has_main o) (k o (first_number o))
     main-weighs c o q s =
-        ap (λ i. employed_at h k c (place_by e (migration e && is_main e i c) i)) q
+        ap (λ i. employed_at h k c (employed_if (migration e && is_main e i c) i)) q
         ∙ place-weighs h k c o (migration e && is_main e o c)
         ∙ ap (λ b. weight_if b (k o c)) (flag (migration e) (is_scheduler e o)
         (nat_lt 0 e.settings.mmbcs) (c == first_number o) on (grind (arith, s)))
@@ -137,7 +137,7 @@ module _ (e : Setup) where
     other-weighs : (c o : ℕ) → owner_of c ≡ o → c ≢ first_number o
         → employed_at h k c (first_place e c) ≡ 0
     other-weighs c o q other =
-        ap (λ i. employed_at h k c (place_by e (migration e && is_main e i c) i)) q
+        ap (λ i. employed_at h k c (employed_if (migration e && is_main e i c) i)) q
         ∙ place-weighs h k c o (migration e && is_main e o c)
         ∙ ap (λ b. weight_if b (k o c)) (flag (migration e) (is_scheduler e o)
         (nat_lt 0 e.settings.mmbcs) (c == first_number o) (grind (arith, other))) where
@@ -198,7 +198,7 @@ module _ (e : Setup) where
 
   no-home : (f : Content → ℕ) (c : ℕ) → home_sum f (first_place e c) ≡ 0
   no-home f c = by (migration e && is_main e (owner_of c) c) where
-    by : (b : Bool) → home_sum f (place_by e b (owner_of c)) ≡ 0
+    by : (b : Bool) → home_sum f (employed_if b (owner_of c)) ≡ 0
     by true = refl
     by false = refl
 
@@ -216,23 +216,23 @@ module _ (e : Setup) where
 
   no-return : (g : ℕ → ℕ → ℕ) (c : ℕ) → returning_at g c (first_place e c) ≡ 0
   no-return g c = by (migration e && is_main e (owner_of c) c) where
-    by : (b : Bool) → returning_at g c (place_by e b (owner_of c)) ≡ 0
+    by : (b : Bool) → returning_at g c (employed_if b (owner_of c)) ≡ 0
     by true = refl
     by false = refl
 
   never-pooled : (c i g : ℕ) (x : Content) → first_place e c ≡ Pooled i g x → ⊥
   never-pooled c i g x = by (migration e && is_main e (owner_of c) c) where
-    by : (b : Bool) → place_by e b (owner_of c) ≡ Pooled i g x → ⊥
+    by : (b : Bool) → employed_if b (owner_of c) ≡ Pooled i g x → ⊥
     by true q = cc
     by false q = cc
 
   never-returning : (c i : ℕ) (x : Content) → first_place e c ≡ Returning i x → ⊥
   never-returning c i x = by (migration e && is_main e (owner_of c) c) where
-    by : (b : Bool) → place_by e b (owner_of c) ≡ Returning i x → ⊥
+    by : (b : Bool) → employed_if b (owner_of c) ≡ Returning i x → ⊥
     by true q = cc
     by false q = cc
 
-  no-place : (b : Bool) (o : ℕ) → b ≡ false → place_by e b o ≡ Absent
+  no-place : (b : Bool) (o : ℕ) → b ≡ false → employed_if b o ≡ Absent
   no-place false o q = refl
   no-place true o q = absurd cc
 
@@ -335,7 +335,7 @@ module _ (e : Setup) where
 
     start-home : (P : Content → Type 0) (c : ℕ) → AtHome P (first_place e c)
     start-home P c = by (migration e && is_main e (owner_of c) c) where
-      by : (b : Bool) → AtHome P (place_by e b (owner_of c))
+      by : (b : Bool) → AtHome P (employed_if b (owner_of c))
       by true = tt
       by false = tt
 

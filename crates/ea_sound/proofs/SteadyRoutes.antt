@@ -2,9 +2,7 @@
 use Rattle.std.proofs.Common.{◌≡◌, ℕ, Bool, true, false, List, ◌∷◌, refl, sym, ap, ◌∙◌, inl, inr}
 use Rattle.std.specs.Prelude.{Option, Some, None, ◌==◌}
 use Rattle.std.proofs.lemmas.Bool.{cases_Bool, eqb-true, true≢false}
-use Rattle.ea_model.specs.declared.carriers.Kind.{Kind}
-use Rattle.ea_model.specs.declared.carriers.Kind.TheVariants.{Main, Multi, Single}
-use Rattle.ea_model.specs.Content.{Content, is_nil}
+use Rattle.ea_model.specs.Content.{Content, is_nil, is_vacant}
 use Rattle.ea_model.specs.Instance.{content_of, employed, releasing_at, without_content, owner_of}
 use Rattle.ea_model.proofs.Rising.{item_at-key}
 use Rattle.ea_model.specs.Abandonment.{is_due}
@@ -23,14 +21,14 @@ use Rattle.ea_machine.specs.Actor.{Actor}
 use Rattle.ea_machine.specs.declared.tasks.Gone.{Gone}
 use Rattle.ea_machine.specs.declared.tasks.Gone.TheVariants.{Here}
 use Rattle.ea_machine.specs.declared.nodes.Named.{Named}
-use Rattle.ea_machine.specs.Releases.{Turned, abandoned_if, after_release, after_release_by}
+use Rattle.ea_machine.specs.Releases.{Turned, abandoned_if, after_release}
 use Rattle.ea_machine.specs.Releases.{dismissed, employed_by, first_gone, forwarded, leaving_by}
 use Rattle.ea_machine.specs.Releases.{lightened, looked, looked_at, owned_by, pooled_by}
 use Rattle.ea_machine.specs.Releases.{release_here, route_of, routed, settled, tried, turned}
 use Rattle.ea_machine.specs.Rows.{Answer, Done, Head, Rests, Passes, Saw, Won, Lost, Home, Got}
 use Rattle.ea_machine.specs.Setup.{Setup, migration}
 use Rattle.ea_sound.specs.Steady.{IsShown, IsSteadyRoute, TellsShown}
-use Rattle.ea_sound.proofs.Due.{due-in_hand, multi-found}
+use Rattle.ea_sound.proofs.Due.{due-in_hand, due-multi, multi-found}
 use Rattle.ea_sound.proofs.Unmoved.{due-unmoved}
 
 module _ (e : Setup) (me : ℕ) where
@@ -57,9 +55,9 @@ module _ (e : Setup) (me : ℕ) where
   module _ (x : Content) (a : Actor) (order : OrderlyIf a) (c : ℕ)
       (there : content_of (employed a.instance) c ≡ Some x) where
     abandoned-goes : (due : Bool) (g : Gone) → is_due e.settings a.instance.contents x ≡ due
-        → x.kind ≡ Multi → Goes a.next a.passed (abandoned_if due x g a)
-    abandoned-goes false g due multi = (refl, refl, tt)
-    abandoned-goes true g due multi = (refl, refl, in_hand) where
+        → Goes a.next a.passed (abandoned_if due x g a)
+    abandoned-goes false g due = (refl, refl, tt)
+    abandoned-goes true g due = (refl, refl, in_hand) where
       orderly : IsOrderly a.instance
       orderly = elim (cases_Bool (migration e)) [
         | inl on ↦ order on
@@ -71,22 +69,15 @@ module _ (e : Setup) (me : ℕ) where
 
       in_hand : is_due e.settings (x ∷ without_content x.number a.instance.contents) x ≡ true
       in_hand = due-in_hand e.settings x a.instance.contents orderly.rising
-          (multi-found a.instance x.number x orderly multi
+          (multi-found a.instance x.number x orderly
+          (due-multi e.settings a.instance.contents x due)
           (ap (content_of (employed a.instance)) number ∙ there)) due
 
-    lightened-goes : (empty : Bool) (g : Gone) → x.kind ≡ Multi
-        → Goes a.next a.passed (lightened e me empty x g a)
-    lightened-goes true g multi =
+    lightened-goes : (vacant : Bool) (g : Gone)
+        → Goes a.next a.passed (lightened e me vacant x g a)
+    lightened-goes true g =
         leaving-goes (owner_of x.number == me) (migration e) x g (dismissed x.number a)
-    lightened-goes false g multi =
-        abandoned-goes (is_due e.settings a.instance.contents x) g refl multi
-
-    released-goes : (k : Kind) (g : Gone) → x.kind ≡ k
-        → Goes a.next a.passed (after_release_by e me k x g a)
-    released-goes Main g kind = (refl, refl, tt)
-    released-goes Multi g kind = lightened-goes (is_nil x.blocks) g kind
-    released-goes Single g kind =
-        leaving-goes (owner_of x.number == me) (migration e) x g (dismissed x.number a)
+    lightened-goes false g = abandoned-goes (is_due e.settings a.instance.contents x) g refl
 
   here-goes : (hand : Named) (g : Gone) (a : Actor) → OrderlyIf a
       → Goes a.next a.passed (release_here e me hand g a)
@@ -97,9 +88,9 @@ module _ (e : Setup) (me : ℕ) where
     by : (o : Option Content) → content_of (employed after.instance) hand.spot.carrier ≡ o
         → Goes a.next a.passed (after_release e me g after o)
     by None q = (refl, refl, tt)
-    by (Some x) q = released-goes x after
-        (λ on. releasing-IsOrderly a.instance hand.spot (order on)) hand.spot.carrier q x.kind
-        (first_gone g Here) refl
+    by (Some x) q = lightened-goes x after
+        (λ on. releasing-IsOrderly a.instance hand.spot (order on)) hand.spot.carrier q
+        (is_vacant x) (first_gone g Here)
 
   employed-goes : (mine : Bool) (i : ℕ) (hand : Named) (g : Gone) (a : Actor) → OrderlyIf a
       → Goes a.next a.passed (employed_by e me mine i hand g a)

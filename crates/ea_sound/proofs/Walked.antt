@@ -1,7 +1,6 @@
 -- Nodes that a walk passed are worked off, where carriers don't migrate.
 use Rattle.std.proofs.Common.{◌≡◌, ℕ, Bool, true, false, List, [], ◌∷◌, refl, sym, ap, subst, ◌∙◌}
 use Rattle.std.specs.Prelude.{Option, None, Some, ◌==◌}
-use Rattle.std.proofs.lemmas.Bool.{eqb-true}
 use Rattle.ea_model.specs.declared.carriers.Spot.{Spot}
 use Rattle.ea_model.specs.Instance.{Instance, owner_of}
 use Rattle.ea_machine.specs.declared.nodes.Named.{Named}
@@ -12,7 +11,7 @@ use Rattle.ea_machine.specs.Actor.{Actor}
 use Rattle.ea_machine.specs.Setup.{Setup, migration}
 use Rattle.ea_machine.specs.Walks.{ready, worked_off}
 use Rattle.ea_sound.specs.Releasing.{freed_at}
-use Rattle.ea_sound.specs.Walking.{CanAllGo, CanGo, Worked, left_if, sent, worked, worked_if}
+use Rattle.ea_sound.specs.Walking.{CanAllGo, Worked, left_if, sent, worked, worked_if}
 use Rattle.ea_sound.proofs.Freed.{released-away, released-here}
 
 -- where the nodes leave a scheduler: ready, or with a block that goes to its carrier's owner
@@ -46,11 +45,10 @@ module _ (setup : Setup) (me : ℕ) (off : migration setup ≡ false) (name : �
       ≡ walked (worked_if own (worked me (freed_at a.instance spot) nodes)
       (record { instance = a.instance; left = nodes; hand = Some hand })) a
   first-walked true is later =
-      let go : CanGo a.instance spot = can.0 (eqb-true (owner_of spot.carrier) me is) in
       let then : CanAllGo me (freed_at a.instance spot) nodes =
       subst (λ own. CanAllGo me (left_if own a.instance spot) nodes) is can.1 in
       released-here setup me off Walk (λ gone b. worked_off setup me nodes b) (λ b. refl) rest hand
-      is go.emptied
+      is
       ∙ later (record rest { instance = freed_at a.instance spot }) then
       ∙ same-walked (worked me (freed_at a.instance spot) nodes).hand
       (worked me (freed_at a.instance spot) nodes) a (freed_at a.instance spot) nodes

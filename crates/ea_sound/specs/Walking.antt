@@ -1,10 +1,8 @@
 -- The nodes that a walk passed, and how they are worked off where carriers don't migrate.
 use Rattle.std.specs.Prelude.{◌≡◌, ℕ, Bool, true, false, ◌==◌, List, [], ◌∷◌, Option, None, Some}
-use Rattle.std.specs.Prelude.{IfSome, IsSome}
-use Rattle.ea_model.specs.declared.carriers.Kind.TheVariants.{Single}
+use Rattle.std.specs.Prelude.{IsSome}
 use Rattle.ea_model.specs.declared.carriers.Spot.{Spot}
-use Rattle.ea_model.specs.Instance.{Instance, block_in, content_of, employed, own_at, owner_of}
-use Rattle.ea_model.specs.Instance.{releasing_at}
+use Rattle.ea_model.specs.Instance.{Instance, block_in, employed, own_at, owner_of}
 use Rattle.ea_machine.specs.declared.nodes.Named.{Named}
 use Rattle.ea_machine.specs.declared.nodes.Node.{Node}
 use Rattle.ea_machine.specs.declared.nodes.Node.TheVariants.{Block, Carrier}
@@ -24,13 +22,10 @@ left_if false i spot = i
 abbrev pub left_by : ℕ → Instance → Spot → Instance
 left_by me i spot = left_if (owner_of spot.carrier == me) i spot
 
--- a block can be released: it is there, in a carrier that the instance owns, and a singleblock
--- carrier is empty without it
+-- a block can be released: it is there, in a carrier that the instance owns
 pub record CanGo (i : Instance) (spot : Spot) : Type 0 where
   pub block : IsSome (block_in (employed i) spot)
   pub own : IsSome (own_at i.own spot.carrier)
-  pub emptied : IfSome (content_of (employed (releasing_at i spot)) spot.carrier)
-      (λ c. c.kind ≡ Single → c.blocks ≡ [])
 
 -- nodes are those of blocks, and in its turn each can be released whose carrier `me` owns
 abbrev pub CanAllGo : ℕ → Instance → List Node → Type 0

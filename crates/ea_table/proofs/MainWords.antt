@@ -1,7 +1,7 @@
 -- The words of the table before the first step, main carrier by main carrier.
-use Rattle.std.proofs.Common.{◌≡◌, ◌≢◌, ℕ, ◌+◌, ◌*◌, ◌<◌, ◌≤◌, Bool, true, false, ◌==◌, nat_le}
+use Rattle.std.proofs.Common.{◌≡◌, ◌≢◌, ℕ, ◌+◌, ◌*◌, ◌<◌, ◌≤◌, Bool, true, ◌==◌, nat_le}
 use Rattle.std.proofs.Common.{nat_lt, List, length, set, slice_index}
-use Rattle.std.proofs.Common.{refl, sym, ap, ◌∙◌, inl, inr, arith}
+use Rattle.std.proofs.Common.{sym, ap, ◌∙◌, inl, inr, arith}
 use Rattle.std.specs.Prelude.{◌&&◌}
 use Rattle.std.proofs.lemmas.Bool.{cases_eq}
 use Rattle.std.proofs.lemmas.List.{get_or-set_other, get_or-set_same, length-set}
@@ -11,10 +11,10 @@ use Rattle.ea_model.specs.declared.settings.Settings.{Settings}
 use Rattle.ea_model.specs.declared.trace.Trace.{Trace}
 use Rattle.ea_model.specs.Instance.{first_number, owner_of}
 use Rattle.ea_model.specs.Settings.{lets_migrate, settings_of}
-use Rattle.ea_machine.specs.Machine.{first_place, is_main, place_by}
-use Rattle.ea_machine.specs.Owners.{Employed}
-use Rattle.ea_machine.specs.Setup.{Setup, migration, setup_of}
-use Rattle.ea_shared.specs.Carriers.{employed_if, is_first_upto, main_upto}
+use Rattle.ea_machine.specs.Machine.{first_place}
+use Rattle.ea_machine.specs.Owners.{Employed, employed_if}
+use Rattle.ea_machine.specs.Setup.{setup_of}
+use Rattle.ea_shared.specs.Carriers.{is_first_upto, main_upto}
 use Rattle.ea_table.specs.Start.{AreFirst, HasOwners}
 use Rattle.ea_table.specs.Words.{owner_at, place_code}
 
@@ -80,10 +80,6 @@ main-asked acul mmbcs i n b migrates some from = grind (arith, migrates, some, f
 pub some-acul : (s : Settings) (on : Bool) → on ≡ lets_migrate s → on ≡ true → s.acul ≢ 0
 some-acul s on is t q = let so : nat_lt 0 s.acul ≡ true = sym is ∙ t in grind (arith, so, q)
 
-main-place : (e : Setup) (b : Bool) (i : ℕ) → employed_if b i ≡ place_by e b i
-main-place e true i = refl
-main-place e false i = refl
-
 pub all-mains : (c : Config) (t : Trace) (ws : List ℕ) → (settings_of c t.letter).acul ≢ 0
     → (settings_of c t.letter).mmbcs ≢ 0
     → HasOwners c.schedulers t.greatest ws (main_upto c.schedulers) → AreFirst c t ws
@@ -101,5 +97,3 @@ all-mains c t ws migrates some has = record {
       ap (λ b. employed_if b i)
       (main-asked settings.acul settings.mmbcs i c.schedulers (number == first_number i) migrates
       some (omega arith))
-      ∙ main-place (setup_of c t)
-      (migration (setup_of c t) && is_main (setup_of c t) i number) i

@@ -28,7 +28,8 @@ use Rattle.ea_machine.specs.declared.stages.Route.TheVariants.{Linking}
 use Rattle.ea_machine.specs.declared.tasks.Gone.{Gone}
 use Rattle.ea_machine.specs.declared.tasks.Why.{Why}
 use Rattle.ea_machine.specs.Alike.{IsNode}
-use Rattle.ea_machine.specs.Machine.{first_stage, is_main, place_by, start}
+use Rattle.ea_machine.specs.Machine.{first_stage, is_main, start}
+use Rattle.ea_machine.specs.Owners.{employed_if}
 use Rattle.ea_machine.specs.Setup.{Setup, is_scheduler, migration, setup_of}
 use Rattle.ea_sound.proofs.OtherTurns.{no-step}
 use Rattle.ea_table.specs.declared.views.About.{About}
@@ -95,7 +96,7 @@ module _ (c : Config) (t : Trace) where
     homes = map some (replicate {A = Slot} (NUMBERS * n) None)
 
     first-slot : (number : ℕ) → 1 ≤ number → number ≤ NUMBERS * n → (b : Bool)
-        → IsSlot homes (λ _. 0) number (place_by e b (owner_of number))
+        → IsSlot homes (λ _. 0) number (employed_if b (owner_of number))
     first-slot number low high true =
         inl (none-out (NUMBERS * n) (slot_at number) (omega (arith, low, high)))
     first-slot number low high false =

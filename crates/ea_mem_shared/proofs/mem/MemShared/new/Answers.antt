@@ -1,8 +1,9 @@
 use Rattle.std.proofs.Common.{◌&&◌, nat_lt, ap, ◌∙◌}
 use Rattle.ea_model.specs.declared.settings.Settings.{Settings}
 use Rattle.ea_model.specs.Instance.{owner_of}
+use Rattle.ea_machine.specs.Owners.{employed_if}
 use Rattle.ea_machine.specs.Setup.{setup_of}
-use Rattle.ea_shared.specs.Carriers.{employed_if, is_first_upto}
+use Rattle.ea_shared.specs.Carriers.{is_first_upto}
 use Rattle.ea_mem_shared.proofs.Mains.{mains-first}
 use Rattle.ea_mem_shared.proofs.Rows.{start-shared}
 use Rattle.ea_mem_shared.proofs.mem.MemShared.new.Goals as goal

@@ -1,5 +1,4 @@
 use Rattle.std.proofs.Common.{◌≡◌, true, false, ◌==◌, sym, ap, ◌∙◌}
-use Rattle.std.proofs.lemmas.Bool.{eqb-true}
 use Rattle.ea_machine.specs.declared.stages.Route.TheVariants.{Looking}
 use Rattle.ea_machine.specs.declared.stages.Stage.TheVariants.{Routed}
 use Rattle.ea_machine.specs.declared.tasks.Gone.TheVariants.{Here, Open}
@@ -38,8 +37,7 @@ returns-then-release-clause-actor c =
     (c.release.ensures.left ∙ ap (λ own. left_if own s.instance hand.spot) own)
     c.let_go.ensures.held
     ∙ sym (released-here (setup_for s) s.number (sym s.migrates_so ∙ c.if-self.false) (For task)
-    (task_over task) (task-open task) (let_go hand.name (ready_of s)) hand own
-    (c.release.ensures.emptied (eqb-true (owner_of hand.spot.carrier) s.number own)))
+    (task_over task) (task-open task) (let_go hand.name (ready_of s)) hand own)
 
 pub returns-else-release-clause-actor : goal.returns-else-release-clause-actor
 returns-else-release-clause-actor c =

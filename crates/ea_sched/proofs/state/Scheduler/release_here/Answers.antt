@@ -61,5 +61,4 @@ returns-clause-turned c = λ at.
     stays-released (setup_for s) s.number c.args.hand c.args.gone c.first_gone-gone.result
     (standing_at at s) i c.release-is_vacant.ensures.released
     c.first_gone-gone.ensures x q (sym c.release-is_vacant.ensures.vacant ∙ c.if-is_vacant.false)
-    c.release-is_vacant.ensures.emptied
     (ap (λ (y : Settings). is_due y i.contents x) (sym same) ∙ sym due ∙ c.if-due.false)
