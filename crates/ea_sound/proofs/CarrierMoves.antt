@@ -51,7 +51,7 @@ use Rattle.ea_sound.proofs.StillMoves.{push-goes, send-goes, try-goes, why-goes}
 use Rattle.ea_sound.proofs.Totals.{put-here}
 
 -- a content that is found is laid out, as its kind is
-pub found-laid : (i : Instance) (n : ℕ) (c : Content) → IsOrderly i
+found-laid : (i : Instance) (n : ℕ) (c : Content) → IsOrderly i
     → content_of (employed i) n ≡ Some c → IsLaidOutAsKind c
 found-laid i n c order there = employed-holds IsLaidOutAsKind i n c
     (All-weaker IsLaidOut IsLaidOutAsKind (λ x. inl) i.contents order.laid)

@@ -29,7 +29,7 @@ module _ (f : Content → ℕ) (x : Content) (cs : List Content) (rising : IsRis
     sum-without number_of f x.number x cs (times-once number_of x.number cs rising) there,
   )
 
--- what is due
+-- what is due is a multiblock carrier that has blocks
 module _ (s : Settings) (cs : List Content) (x : Content) (due : is_due s cs x ≡ true) where
   both : (is_multi x.kind ≡ true) × (not (is_nil x.blocks) ≡ true)
   both = and_parts (is_multi x.kind) (not (is_nil x.blocks)) (and_parts
