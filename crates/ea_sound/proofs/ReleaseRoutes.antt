@@ -234,10 +234,13 @@ module _ (e : Setup) (s : Shared) (me : ℕ) (home bound : Counting → ℕ) (y 
         -- what isn't its own is a multiblock carrier
         multi : can_go x.kind ≡ true → (owner_of x.number == me) ≡ false
             → (x.kind ≡ Multi) × (migration e ≡ true)
-        multi go other = (by x.kind refl go, elim (cases_Bool (migration e)) [
-          | inl on ↦ on
-          | inr off ↦ absurd (not (own (inr off)))
-        ]) where
+        multi go other = (
+          by x.kind refl go,
+          elim (cases_Bool (migration e)) [
+            | inl on ↦ on
+            | inr off ↦ absurd (not (own (inr off)))
+          ],
+        ) where
           not : owner_of x.number ≢ me
           not = eqb-false (owner_of x.number) me other
 
