@@ -26,12 +26,13 @@ module _ {C : Type 0} (content : C → Content) where
   told_by (Won x) = rows.Won (content x)
   told_by (Lost w) = rows.Lost w
 
--- where the carrier of a number is, if each of the first schedulers employs its main carrier and no
--- other is there
+-- whether the number is that of the main carrier of one of the first schedulers
 abbrev pub is_first_upto : ℕ → ℕ → Bool
 is_first_upto last number = nat_le (owner_of number) last
     && (number == first_number (owner_of number))
 
+-- where the carrier of a number is, if each of the first schedulers employs its main carrier and no
+-- other is there
 abbrev pub main_upto : ℕ → ℕ → CarrierAt
 main_upto last number = employed_if (is_first_upto last number) (owner_of number)
 
