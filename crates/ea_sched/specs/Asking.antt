@@ -4,7 +4,7 @@ use Rattle.std.specs.Prelude.{[], ◌∷◌, None, IfSome, IsSome, drop, length}
 use Rattle.ea_model.specs.declared.operations.Op.{Op}
 use Rattle.ea_model.specs.declared.operations.Op.TheVariants.{Alloc, Free, Realloc}
 use Rattle.ea_model.specs.declared.operations.Op.TheVariants.{Give, Take, Info, Idle}
-use Rattle.ea_model.specs.declared.units.TheConstants.{MAX_BYTES}
+use Rattle.ea_model.specs.declared.units.TheConstants.{MAX_BYTES, MIN_BLOCK}
 use Rattle.ea_model.specs.Instance.{Instance, block_in, employed, has_content, own_at}
 use Rattle.ea_model.specs.Instance.{owner_of}
 use Rattle.ea_machine.specs.declared.asks.Ask.{Ask}
@@ -53,7 +53,7 @@ module _ (i : Instance) (s : Scheduler) where
   -- a place is asked for as operations ask for one
   pub record IsAsked (ask : Ask) : Type 0 where
     pub even : ask.need % 2 ≡ 0
-    pub least : 6 ≤ ask.need
+    pub least : MIN_BLOCK ≤ ask.need
     pub fresh : IsFresh s ask.name
     pub old : IfSome ask.old IsHere
 

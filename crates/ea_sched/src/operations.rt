@@ -3,7 +3,7 @@ ghost use Rattle.std.specs.Prelude.{◌≡◌, ◌≢◌, ◌≤◌, ◌+◌, �
 ghost use Rattle.std.specs.Prelude.{OnOk, drop};
 ghost use Rattle.ea_model.specs.declared.reallocation.Decision.TheVariants.{Move};
 ghost use Rattle.ea_model.specs.declared.carriers.BlockAt.{BlockAt};
-ghost use Rattle.ea_model.specs.declared.units.TheConstants.{MAX_BYTES};
+ghost use Rattle.ea_model.specs.declared.units.TheConstants.{MAX_BYTES, MIN_BLOCK};
 ghost use Rattle.ea_model.specs.Instance.{block_in, decision_at, employed, resized_to, resizing_at};
 ghost use Rattle.ea_model.specs.Units.{need_of};
 ghost use Rattle.ea_machine.specs.Nodes as nodes;
@@ -36,7 +36,7 @@ impl<'t> Scheduler<'t> {
         requires held { nodes.named_at old.name self.old.names.held ≡ Some old }
         requires fresh { IsFresh self.old fresh }
         requires even { need % 2 ≡ 0 }
-        requires least { 6 ≤ need }
+        requires least { MIN_BLOCK ≤ need }
         requires counts { CanCount self.old.instance }
         ensures actor { OnOk result (actor_of self.new ≡ reallocations.reallocated_by
             (setup_for self.old) self.old.number old fresh need (ready_of self.old)

@@ -36,7 +36,7 @@ fn free_at(instance: &mut Instance, spot: Spot)
 /// Where carriers don't migrate, so that their owners employ them: releases the block at the spot,
 /// if scheduler `me`, whose instance this is, employs its carrier; else nothing changes. Answers
 /// whether it does.
-pub fn release(instance: &mut Instance, me: u32, spot: Spot) -> bool
+pub fn release_if_own(instance: &mut Instance, me: u32, spot: Spot) -> bool
     requires block { owner_of spot.carrier ≡ me
         → IsSome (block_in (employed instance.old) spot) }
     requires own { owner_of spot.carrier ≡ me
@@ -132,7 +132,7 @@ impl<'t> Scheduler<'t> {
             };
             return;
         }
-        if release(&mut self.instance, self.number, hand.spot) {
+        if release_if_own(&mut self.instance, self.number, hand.spot) {
             self.finish_task(task, Gone::Here);
         } else {
             self.send(hand, Why::For { task });

@@ -107,6 +107,8 @@ impl<'t> Scheduler<'t> {
     /// ended or is stopped takes none. An `Err` says that the step plans a multiblock carrier, and
     /// that there was no memory for it: no other step fails. Where carriers migrate the carrier is
     /// kept until the step that creates it. From then on an `Err` is all that this scheduler answers.
+    /// It is part of its caller's loop, so that a look pays for no call.
+    #[inline(always)]
     pub fn step_upto<S: Shared<Content = Mbc>>(
         &mut self,
         alloc: Global,

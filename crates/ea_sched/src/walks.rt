@@ -9,7 +9,7 @@ ghost use Rattle.ea_sched.specs.Passing.{stage_for};
 ghost use Rattle.ea_sound.specs.Walking.{CanAllGo, worked};
 
 use crate::passed::Passed;
-use crate::releases::release;
+use crate::releases::release_if_own;
 use crate::state::Scheduler;
 use ea_instance::{Held, Instance};
 use ea_machine::{Gone, Named, Node, Route, Stage, Why};
@@ -32,7 +32,7 @@ fn work_off(passed: &mut Passed, instance: &mut Instance, me: u32) -> Option<Nam
             Node::Block { name, spot } => (name, spot),
             Node::Carrier { .. } => unreachable!(),
         };
-        if !release(instance, me, spot) {
+        if !release_if_own(instance, me, spot) {
             return Some(Named { name, spot });
         }
     }

@@ -24,32 +24,32 @@ returns-then-self-clause-actor c =
     ∙ sym (handed-on (setup_for s) s.number (sym s.migrates_so ∙ c.if-self.true) task hand
     (ready_of s))
 
-pub returns-then-release-clause-actor : goal.returns-then-release-clause-actor
-returns-then-release-clause-actor c =
+pub returns-then-release_if_own-clause-actor : goal.returns-then-release_if_own-clause-actor
+returns-then-release_if_own-clause-actor c =
     let s = c.args.self.now in
     let hand = c.args.hand in
     let task = c.args.task in
     let own : (owner_of hand.spot.carrier == s.number) ≡ true =
-    sym c.release.ensures.own ∙ c.if-release.true in
+    sym c.release_if_own.ensures.own ∙ c.if-release_if_own.true in
     c.finish_task.ensures.actor
-    ∙ handed (task_over task Here) (ready_of s) c.release.new.instance
+    ∙ handed (task_over task Here) (ready_of s) c.release_if_own.new.instance
     (freed_at s.instance hand.spot) c.let_go.new.self.held (without_name hand.name s.names.held)
-    (c.release.ensures.left ∙ ap (λ own. left_if own s.instance hand.spot) own)
+    (c.release_if_own.ensures.left ∙ ap (λ own. left_if own s.instance hand.spot) own)
     c.let_go.ensures.held
     ∙ sym (released-here (setup_for s) s.number (sym s.migrates_so ∙ c.if-self.false) (For task)
     (task_over task) (task-open task) (let_go hand.name (ready_of s)) hand own)
 
-pub returns-else-release-clause-actor : goal.returns-else-release-clause-actor
-returns-else-release-clause-actor c =
+pub returns-else-release_if_own-clause-actor : goal.returns-else-release_if_own-clause-actor
+returns-else-release_if_own-clause-actor c =
     let s = c.args.self.now in
     let hand = c.args.hand in
     let task = c.args.task in
     let other : (owner_of hand.spot.carrier == s.number) ≡ false =
-    sym c.release.ensures.own ∙ c.if-release.false in
+    sym c.release_if_own.ensures.own ∙ c.if-release_if_own.false in
     c.send.ensures.actor
-    ∙ handed (sent hand (For task)) (ready_of s) c.release.new.instance
+    ∙ handed (sent hand (For task)) (ready_of s) c.release_if_own.new.instance
     s.instance c.let_go.new.self.held (without_name hand.name s.names.held)
-    (c.release.ensures.left ∙ ap (λ own. left_if own s.instance hand.spot) other)
+    (c.release_if_own.ensures.left ∙ ap (λ own. left_if own s.instance hand.spot) other)
     c.let_go.ensures.held
     ∙ sym (released-away (setup_for s) s.number (sym s.migrates_so ∙ c.if-self.false) (For task)
     (task_over task) (task-open task) (let_go hand.name (ready_of s)) hand other)
