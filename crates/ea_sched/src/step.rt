@@ -81,6 +81,7 @@ impl<'t> Scheduler<'t> {
 
     /// Does the row that is next, and goes on by its answer, up to the next one, with the figures
     /// of its carriers observed. A look of a search changes none of them.
+    #[inline(always)]
     fn advance<S: Shared<Content = Mbc>>(
         &mut self,
         alloc: Global,
