@@ -125,7 +125,9 @@ impl<'t> Scheduler<'t> {
     }
 
     /// A look of the search, at the owner word of its next carrier. Most carriers of the pool are
-    /// passed over, and nothing else comes of the look.
+    /// passed over, and nothing else comes of the look. It is part of its caller's loop, as
+    /// `step_upto` is.
+    #[inline(always)]
     pub(crate) fn search<S: Shared<Content = Mbc>>(
         &mut self,
         alloc: Global,
