@@ -4,11 +4,12 @@ use Rattle.std.proofs.Common.{subst, ◌∙◌, append_assoc, append-nil}
 use Rattle.std.specs.Borrow.{Bor}
 use Rattle.std.specs.Prelude.{Option, None}
 use Rattle.ea_model.specs.declared.trace.Trace.{Trace}
+use Rattle.ea_model.proofs.Reversed.{newest-first}
 use Rattle.ea_trace.specs.Between.{earlier_of}
 use Rattle.ea_trace.specs.Language.{LineWords, WordLines, trace_of}
+use Rattle.ea_trace.specs.Lines.{line_of_words}
 use Rattle.ea_trace.specs.Taken.{HasTaken}
 use Rattle.ea_trace.specs.declared.reader.TraceReader.{TraceReader}
-use Rattle.ea_trace.proofs.Taken.{earlier_more}
 use Rattle.ea_frame.specs.Lines.{rest_lines}
 use Rattle.ea_contents.specs.Language.{and_line, blanked, is_access}
 use Rattle.ea_contents.specs.Reading.{Knows, Reads}
@@ -38,7 +39,7 @@ module _ (n : ℕ) (all : WordLines) (l : LineWords) (left : WordLines) (trace :
     taken = r.taken ++ blanked l ∷ [];
     has = has;
     rest = append_assoc r.taken (blanked l ∷ []) (map blanked left) ∙ r.rest;
-    known = λ t ok. subst (λ e. Knows n all e left b) (earlier_more r.taken (blanked l))
+    known = λ t ok. subst (λ e. Knows n all e left b) (newest-first line_of_words r.taken (blanked l))
         (f t ok (r.known t ok));
   }
 

@@ -4,7 +4,6 @@ use Rattle.std.proofs.Common.{◌≡◌, ◌≢◌, ℕ, true, false, List, inl,
 use Rattle.std.proofs.Common.{arith}
 use Rattle.std.specs.Prelude.{◌⊎◌, ◌↔◌, Option, None, Some, Result, Ok, Err, IsOk, IsOkAnd, IfSome}
 use Rattle.std.specs.declared.string.String.{String}
-use Rattle.ea_io.proofs.Calling.{stopped-reading, stopped-writing}
 use Rattle.ea_flags.specs.declared.fault.FlagFault.{FlagFault}
 use Rattle.ea_flags.specs.Flags.{flags}
 use Rattle.ea_model.specs.declared.settings.Config.{Config}
@@ -20,6 +19,7 @@ use Rattle.ea_frame.specs.Inputs.{DeclinedInput, GivesText, GoodInput, GoodWords
 use Rattle.ea_frame.specs.Inputs.{RunInput, spelled}
 use Rattle.ea_frame.specs.Language.{HasText, IsDeclined, IsGood, IsRefused, IsRun, Language}
 use Rattle.ea_frame.specs.Whys.{IsWhy}
+use Rattle.ea_frame.proofs.Faulted.{stopped-reading, stopped-writing}
 use Rattle.ea_frame.proofs.Statuses.{never_refused}
 use Rattle.ea_frame.proofs.Statuses.{refused_ends}
 

@@ -4,7 +4,7 @@ use Rattle.std.specs.Prelude.{Option, Result, Ok, Err, OnOk, OnErr}
 use Rattle.std.specs.Io.KnownBytes.{Appends}
 use Rattle.ea_io.specs.Calls.{StopsWriting}
 use Rattle.ea_io.specs.Counts.{Calm}
-use Rattle.ea_io.proofs.Calling.{stopped-writing}
+use Rattle.ea_frame.proofs.Faulted.{stopped-writing}
 
 pub whole-line : {E A F : Type 0} (taken : E → Option (List ℕ)) (faults : E → ℕ) (old new : E)
     (line : List ℕ) (r : Result A F) → OnOk r (Appends (taken old) (taken new) line)

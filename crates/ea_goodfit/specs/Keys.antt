@@ -7,6 +7,7 @@ use Rattle.ea_keytree.specs.Keys.{KeysHeld}
 use Rattle.ea_goodfit.specs.declared.gaps.BinnedGap.{BinnedGap}
 use Rattle.ea_goodfit.specs.declared.fits.Fit.{Fit}
 use Rattle.ea_goodfit.specs.declared.fits.Fit.TheVariants.{Good, Best, AddressOrderBest}
+use Rattle.ea_goodfit.specs.declared.keys.TheConstants.{BINS}
 use Rattle.ea_goodfit.specs.Gaps.{address_of, IsBelow}
 
 -- the bin or the size of a gap, whichever gaps are found by
@@ -26,7 +27,7 @@ key_of fit g = class_of fit g.size * 2 ^ 32 + place_of fit g.address
 
 -- what keys are below
 abbrev pub width_of : Fit → ℕ
-width_of Good = 90 * 2 ^ 32
+width_of Good = BINS * 2 ^ 32
 width_of Best = (2 ^ 32 - 1) * 2 ^ 32
 width_of AddressOrderBest = (2 ^ 32 - 1) * 2 ^ 32
 

@@ -1,9 +1,8 @@
 -- Calls that follow each other.
-use Rattle.std.proofs.Common.{◌≡◌, ℕ, List, [], ◌∷◌, Option, sym, ◌∙◌, subst, ap}
+use Rattle.std.proofs.Common.{◌≡◌, ℕ, List, [], ◌∷◌, Option, sym, subst}
 use Rattle.std.specs.Prelude.{Result, Ok, Err, OnErr}
-use Rattle.ea_io.specs.Calls.{ByCalls, Reads, Writes, HasRead, OnlyReads}
-use Rattle.ea_io.specs.Calls.{StopsReading, HasWritten, OnlyWrites, StopsWriting}
-use Rattle.ea_io.specs.Counts.{next_count}
+use Rattle.ea_io.specs.Calls.{ByCalls, HasWritten, OnlyReads, OnlyWrites, Reads, StopsWriting}
+use Rattle.ea_io.specs.Calls.{Writes}
 use Rattle.ea_io.specs.declared.ends.Failed.{Failed}
 
 -- what holds holds of an answer
@@ -19,25 +18,12 @@ module _ {End : Type 0} (Call : End → End → Type 0) where
   joined a b c first (last ∷ more) p q =
       let (passed, to) = joined a b last first more p q.0 in (last ∷ passed, (to, q.1))
 
-  -- calls that each keep something keep it
-  keeps : {A : Type 0} (of : End → A) → ((s s' : End) → Call s s' → of s' ≡ of s)
-      → (a b : End) (passed : List End) → ByCalls Call a passed b → of b ≡ of a
-  keeps of each a b [] p = ap of p
-  keeps of each a b (last ∷ passed) p = each last b p.1 ∙ keeps of each a last passed p.0
-
 module _ {S : Type 0} (left : S → Option (List ℕ)) (faults : S → ℕ) where
   -- reads, and then one more
   pub and-read : (a b c : S) (n : ℕ) (buf : List ℕ) → OnlyReads left faults a b
       → Reads {E = Failed} (left b) (left c) (faults b) (faults c) (Ok n) buf
       → OnlyReads left faults a c
   and-read a b c n buf before read = (b ∷ before.0, (before.1, (n, (buf, read))))
-
-  -- reads that succeeded count no fault, and one that fails counts one
-  pub stopped-reading : (old new : S) → StopsReading left faults old new
-      → faults new ≡ next_count (faults old)
-  stopped-reading old new h =
-      h.fault.1.1.once ∙ ap next_count (keeps (HasRead left faults) faults
-      (λ s s' call. call.1.1.kept) old h.before h.passed h.calls)
 
 module _ {O : Type 0} (taken : O → Option (List ℕ)) (faults : O → ℕ) where
   -- writes, and then one more
@@ -92,13 +78,6 @@ module _ {O : Type 0} (taken : O → Option (List ℕ)) (faults : O → ℕ) whe
       ),
     );
   }
-
-  -- writes that succeeded count no fault, and one that fails counts one
-  pub stopped-writing : (old new : O) → StopsWriting taken faults old new
-      → faults new ≡ next_count (faults old)
-  stopped-writing old new h =
-      h.fault.1.1.once ∙ ap next_count (keeps (HasWritten taken faults) faults
-      (λ s s' call. call.1.1.kept) old h.before h.passed h.calls)
 
   -- writes, and then some more
   pub more-writes : (a b c : O) → OnlyWrites taken faults a b → OnlyWrites taken faults b c

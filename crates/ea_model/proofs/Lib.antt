@@ -10,6 +10,7 @@ pub mod Orders
 pub mod Outcomes
 pub mod Pairs
 pub mod Powers
+pub mod Reversed
 pub mod Rising
 pub mod Splits
 pub mod Traces

@@ -1,5 +1,5 @@
 -- A row that a scheduler has done, as it is told, and where the step leaves the scheduler.
-use Rattle.std.specs.Prelude.{◌≡◌, ◌≢◌, ◌⊎◌, ℕ, Bool, true, false, List, [], ◌∷◌, ◌++◌, length}
+use Rattle.std.specs.Prelude.{◌≡◌, ◌≢◌, ◌⊎◌, ℕ, Bool, true, false, List, [], ◌∷◌, ◌++◌}
 use Rattle.std.specs.Prelude.{Option, None, Some, IfSome, IsSome, replicate}
 use Rattle.std.proofs.Common.{Bor, refl, sym, ap, ◌∙◌, subst, inl, inr}
 use Rattle.ea_model.specs.declared.settings.Config.{Config}
@@ -18,7 +18,7 @@ use Rattle.ea_machine.specs.Statistics.{observed}
 use Rattle.ea_machine.specs.Table.{answer, effect}
 use Rattle.ea_shared.specs.Calls.{Caller, Did, HasEffect, KnowsFront, Told, TookStep, caller_of}
 use Rattle.ea_sound.specs.Turns.{is_ended}
-use Rattle.ea_sound.proofs.OtherTurns.{actor-since, rest-since}
+use Rattle.ea_sound.proofs.OtherTurns.{actor-since}
 use Rattle.ea_sound.proofs.TurnLists.{run-append, step-mine, step-shared}
 use Rattle.ea_machine.specs.declared.stages.Stage.{Stage}
 use Rattle.ea_machine.specs.declared.stages.Stage.TheVariants as stages
@@ -72,16 +72,11 @@ module _ (e : Setup) (w : State) (me : ℕ) (a : Actor) (at : w.actors me ≡ a)
 
 -- a caller that knew a front of the turns stands after all of them as it did, as the others' turns
 -- leave it
-pub front-stands : (e : Setup) (me : ℕ) (turns : List ℕ) (x : Caller) → KnowsFront e me turns x
-    → (x.actor ≡ (run e turns).actors me) × (x.rest ≡ length ((run e turns).shared.rests me))
-front-stands e me turns x knew = (
-  ap (λ (y : Caller). y.actor) knew.stands
-      ∙ sym (actor-since e me x.turns knew.since knew.others)
-      ∙ ap (λ l. (run e l).actors me) (sym knew.front),
-  ap (λ (y : Caller). y.rest) knew.stands
-      ∙ sym (rest-since e me x.turns knew.since knew.others)
-      ∙ ap (λ l. length ((run e l).shared.rests me)) (sym knew.front),
-)
+front-stands : (e : Setup) (me : ℕ) (turns : List ℕ) (x : Caller) → KnowsFront e me turns x
+    → x.actor ≡ (run e turns).actors me
+front-stands e me turns x knew = ap (λ (y : Caller). y.actor) knew.stands
+    ∙ sym (actor-since e me x.turns knew.since knew.others)
+    ∙ ap (λ l. (run e l).actors me) (sym knew.front)
 
 -- turns after which the scheduler stands so, and the row is answered so; what is shared is as it is
 -- told, and the caller that is told knew a front of them and took its step there
@@ -119,7 +114,7 @@ module _ (c : Config) (t : Trace) (me : ℕ) (a : Actor) where
           let mine = subst (TookStep me row got shared new.caller) h.calls did.caller in
           record {
             turns = mine.turns;
-            actor = sym (front-stands e me mine.turns (caller_of e me h.turns) mine.knew).0
+            actor = sym (front-stands e me mine.turns (caller_of e me h.turns) mine.knew)
                 ∙ h.actor;
             answered = mine.answered;
             shares = mine.shares;

@@ -1,8 +1,6 @@
 //! The release of a block, and the end of an operation.
-ghost use Rattle.std.specs.Prelude.{◌≡◌, false, ◌+◌, ◌<◌, ◌≤◌, ◌==◌, [], IfSome, IsSome, drop};
-ghost use Rattle.ea_model.specs.declared.carriers.Kind.TheVariants.{Single};
-ghost use Rattle.ea_model.specs.Instance.{block_in, content_of, employed};
-ghost use Rattle.ea_model.specs.Instance.{own_at, owner_of, releasing_at};
+ghost use Rattle.std.specs.Prelude.{◌≡◌, ◌==◌, IsSome};
+ghost use Rattle.ea_model.specs.Instance.{block_in, employed, own_at, owner_of};
 ghost use Rattle.ea_machine.specs.Nodes as nodes;
 ghost use Rattle.ea_machine.specs.Operations as operations;
 ghost use Rattle.ea_machine.specs.Tasks as tasks;
@@ -23,8 +21,6 @@ fn free_at(instance: &mut Instance, spot: Spot)
     requires block { IsSome (block_in (employed instance.old) spot) }
     requires own { IsSome (own_at instance.old.own spot.carrier) }
     ensures freed { instance.new ≡ releasing.freed_at instance.old spot }
-    ensures emptied { IfSome (content_of (employed (releasing_at instance.old spot)) spot.carrier)
-        (λ c. c.kind ≡ Single → c.blocks ≡ []) }
 {
     let is_vacant = instance.release(spot);
     if is_vacant {
@@ -43,9 +39,6 @@ pub fn release_if_own(instance: &mut Instance, me: u32, spot: Spot) -> bool
         → IsSome (own_at instance.old.own spot.carrier) }
     ensures own { result ≡ (owner_of spot.carrier == me) }
     ensures left { instance.new ≡ walking.left_by me instance.old spot }
-    ensures emptied { owner_of spot.carrier ≡ me
-        → IfSome (content_of (employed (releasing_at instance.old spot)) spot.carrier)
-        (λ c. c.kind ≡ Single → c.blocks ≡ []) }
 {
     if owner_of(spot.carrier) != me {
         return false;

@@ -12,10 +12,11 @@ use Rattle.ea_machine.specs.Actor.{Actor}
 use Rattle.ea_machine.specs.Machine.{run, step}
 use Rattle.ea_machine.specs.Setup.{Setup, setup_of}
 use Rattle.ea_machine.specs.State.{State}
-use Rattle.ea_shared.specs.Calls.{Caller, caller_of}
+use Rattle.ea_shared.specs.Calls.{Caller, KnowsFront, caller_of}
 use Rattle.ea_sound.specs.Entries.{Tells}
 use Rattle.ea_sound.specs.OwnWork.{own_work}
 use Rattle.ea_sound.specs.Turns.{is_ended, log_after}
+use Rattle.ea_sound.proofs.OtherTurns.{rest-since}
 use Rattle.ea_sound.proofs.OwnWork.{own-less}
 use Rattle.ea_sound.proofs.Protocols.{always-protocol}
 use Rattle.ea_sound.proofs.Stopping.{count-append, count-no, count-replicate}
@@ -23,7 +24,6 @@ use Rattle.ea_sound.proofs.TurnLists.{run-snoc}
 use Rattle.ea_sched.specs.declared.state.Scheduler.{Scheduler}
 use Rattle.ea_sched.specs.Acting.{actor_of, is_over, rests}
 use Rattle.ea_sched.specs.Steps.{IsReady, Ready, Stepped}
-use Rattle.ea_sched.proofs.Doing.{front-stands}
 use Rattle.ea_machine.specs.Stops.{count_of, less}
 use Rattle.ea_model.specs.Trace.{stop_in}
 use Rattle.ea_table.specs.declared.views.View.{View}
@@ -34,6 +34,13 @@ use Rattle.ea_table.specs.declared.pass.Pass.{Pass}
 use Rattle.ea_table.specs.declared.shared.TableShared.{TableShared}
 use Rattle.ea_table.specs.declared.worker.Worker.{Worker}
 use Rattle.ea_table.specs.Working.{AtWork}
+
+-- the others' turns leave what a caller has not looked at of its queue as it knew it
+rest-left : (e : Setup) (me : ℕ) (turns : List ℕ) (x : Caller) → KnowsFront e me turns x
+    → x.rest ≡ length ((run e turns).shared.rests me)
+rest-left e me turns x knew = ap (λ (y : Caller). y.rest) knew.stands
+    ∙ sym (rest-since e me x.turns knew.since knew.others)
+    ∙ ap (λ l. length ((run e l).shared.rests me)) (sym knew.front)
 
 stepped-less : (c : Config) (t : Trace) (me : ℕ) (a b : Actor) (x y : View)
     → Ready c t me a (told_in x) → a.stage ≢ Ended → Stepped c t me 1 a b (told_in x) (told_in y)
@@ -55,7 +62,7 @@ stepped-less c t me a b x y h goes took =
           (run-snoc e took.turns me),
       ap (λ d. own_work c t d (caller_in x).rest) took.actor,
       ap (own_work c t (w.actors me))
-          (front-stands e me took.turns (caller_in x) took.calls.0).1,
+          (rest-left e me took.turns (caller_in x) took.calls.0),
     )
 
 -- that many steps of a scheduler, beside which others step

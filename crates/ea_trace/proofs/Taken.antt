@@ -1,10 +1,9 @@
 -- A reader that takes one line more.
 use Rattle.std.proofs.Common.{◌≡◌, ℕ, ◌+◌, [], ◌∷◌, ◌++◌, Option, Some, None, Err}
-use Rattle.std.proofs.Common.{false, is_some}
-use Rattle.std.proofs.Common.{length, map, reverse, refl, sym, ap, subst, ◌∙◌, append_assoc, append-nil}
-use Rattle.std.proofs.Common.{length-append, arith}
+use Rattle.std.proofs.Common.{false, is_some, length, refl, sym, ap, subst, ◌∙◌, append_assoc}
+use Rattle.std.proofs.Common.{append-nil, length-append, arith}
+use Rattle.ea_model.proofs.Reversed.{newest-first}
 use Rattle.ea_trace.specs.Knows.{Judged}
-use Rattle.std.proofs.lemmas.List.{map-append, reverse-append}
 use Rattle.ea_trace.specs.Between.{earlier_of}
 use Rattle.ea_trace.specs.Language.{Answer, Earlier, Gives, LineWords, WordLines, at_end}
 use Rattle.ea_trace.specs.Language.{letter_after, mode_after, refusal}
@@ -22,17 +21,11 @@ pub one_more : (before : WordLines) (words : LineWords) (k : ℕ) → k ≡ leng
     → k + 1 ≡ length (before ++ words ∷ [])
 one_more before words k e = omega (arith, length-append before (words ∷ []))
 
--- what one more line says
-pub earlier_more : (before : WordLines) (words : LineWords)
-    → line_of_words words ∷ earlier_of before ≡ earlier_of (before ++ words ∷ [])
-earlier_more before words = sym (ap reverse (map-append line_of_words before (words ∷ []))
-    ∙ reverse-append (map line_of_words before) (line_of_words words ∷ []))
-
--- the same of a line that is read
+-- what one more line says that is read
 pub said_more : (before : WordLines) (words : LineWords) (line : Said) (earlier : Earlier)
     → line ≡ line_of_words words → earlier ≡ earlier_of before
     → line ∷ earlier ≡ earlier_of (before ++ words ∷ [])
-said_more before words line earlier e said = rw (e, said) (earlier_more before words)
+said_more before words line earlier e said = rw (e, said) (newest-first line_of_words before words)
 
 -- a line that comes later is taken
 pub moved : (n : ℕ) (before : WordLines) (words : LineWords) (later : WordLines)
