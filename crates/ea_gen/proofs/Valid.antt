@@ -201,7 +201,7 @@ addressed_all k ops (suc j) h =
     subst (λ to. list_any (gives_to k to) ops ≡ true) same h
 
 -- a generated trace is valid
-pub generated_valid : (letter : Letter) (seed n count : ℕ) → seed ≤ MAX_SEED → 1 ≤ count
+generated_valid : (letter : Letter) (seed n count : ℕ) → seed ≤ MAX_SEED → 1 ≤ count
     → n * count ≤ MAX_OPS → IsValidTrace n (generated_trace letter seed n count)
 generated_valid letter seed n count s c room =
     let t = generated_trace letter seed n count in

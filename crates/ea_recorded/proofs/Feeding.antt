@@ -30,12 +30,11 @@ use Rattle.ea_trace.specs.declared.lines.Line.TheVariants as said
 use Rattle.ea_trace.specs.declared.stages.Stage.{Stage}
 use Rattle.ea_trace.specs.declared.stages.Stage.TheVariants as at
 use Rattle.ea_trace.specs.declared.takes.TakeLine.{TakeLine}
-use Rattle.ea_trace.proofs.Ranges.{words_ranges}
-use Rattle.ea_trace.specs.Ranges.{HasRanges, InRange}
+use Rattle.ea_trace.specs.Ranges.{HasRanges}
 use Rattle.ea_recorded.specs.Language.{Placed, Told, answer_in, end_line, is_of, own_of, placed}
 use Rattle.ea_recorded.specs.Language.{schedule_line, section, section_line, sections, trace_lines}
 use Rattle.ea_recorded.specs.Language.{unplaced, words_of}
-use Rattle.ea_recorded.specs.Told.{AreTold, IsSaid}
+use Rattle.ea_recorded.specs.Told.{AreTold, IsInRange, IsSaid}
 use Rattle.ea_recorded.specs.declared.lines.OwnLine.{OwnLine}
 
 -- what the lines say that aren't in the input
@@ -130,8 +129,7 @@ module _ (told : List Told) (lines : List OwnLine) (are : AreTold told lines) (k
   own-said = All-get_or IsSaid told k nobody within are.said
 
   pub own-range : (d : OwnLine) → HasRanges (get_or lines k d).op
-  own-range d = subst (λ (o : OwnLine). HasRanges o.op) (sym (own-is d))
-      (subst InRange own-said (words_ranges at_place.words))
+  own-range d = All-get_or IsInRange lines k d below are.ranges
 
   pub own-more : (me : ℕ)
       → own_upto me (k + 1) told ≡ own_upto me k told ++ own_of me (at_place ∷ [])

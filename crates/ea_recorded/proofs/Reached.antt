@@ -24,7 +24,7 @@ use Rattle.ea_recorded.specs.Language.{line_by, line_of, may_stand, next, operat
 use Rattle.ea_recorded.specs.Language.{answer_in, asked_for, asked_if, ended_letter, read_after}
 use Rattle.ea_recorded.specs.Language.{refusal, refused_by, told_by, trace_lines, words_of}
 use Rattle.ea_recorded.specs.Reading.{Reads}
-use Rattle.ea_recorded.specs.Told.{AreTold, IsSaid, ToldLines}
+use Rattle.ea_recorded.specs.Told.{AreTold, IsInRange, IsLineInRange, IsSaid, ToldLines}
 use Rattle.ea_recorded.specs.declared.lines.OwnLine.{OwnLine}
 use Rattle.ea_recorded.specs.declared.lines.RecordedLine.{RecordedLine}
 use Rattle.ea_recorded.specs.declared.lines.RecordedLine.TheVariants as line
@@ -79,15 +79,27 @@ told-said number ws (line.Letter x) e = All-nil IsSaid
 told-said number ws line.End e = All-nil IsSaid
 told-said number ws line.Unreadable e = All-nil IsSaid
 
+told-ranges : (number : ℕ) (ws : LineWords) (l : RecordedLine) → IsLineInRange l
+    → All IsInRange (map (λ (t : Told). t.own) (told_by number ws l))
+told-ranges number ws (line.Operation i op) range =
+    All-cons IsInRange _ [] range (All-nil IsInRange)
+told-ranges number ws line.Skipped range = All-nil IsInRange
+told-ranges number ws (line.Letter x) range = All-nil IsInRange
+told-ranges number ws line.End range = All-nil IsInRange
+told-ranges number ws line.Unreadable range = All-nil IsInRange
+
 -- a line more is told
 pub told-more : (told : ToldLines) (old new : List OwnLine) (number : ℕ) (ws : LineWords)
-    (l : RecordedLine) → AreTold told old → l ≡ line_of ws
+    (l : RecordedLine) → AreTold told old → l ≡ line_of ws → IsLineInRange l
     → new ≡ old ++ map (λ (t : Told). t.own) (told_by number ws l)
     → AreTold (told ++ told_by number ws l) new
-told-more told old new number ws l are e is = record {
+told-more told old new number ws l are e range is = record {
   own = is ∙ ap (λ xs. xs ++ map (λ (t : Told). t.own) (told_by number ws l)) are.own
       ∙ sym (map-append (λ (t : Told). t.own) told (told_by number ws l));
   said = All-append IsSaid told (told_by number ws l) are.said (told-said number ws l e);
+  ranges = subst (All IsInRange) (sym is)
+      (All-append IsInRange old (map (λ (t : Told). t.own) (told_by number ws l)) are.ranges
+      (told-ranges number ws l range));
 }
 
 -- its scheduler is there

@@ -2,6 +2,7 @@
 ghost use Rattle.std.specs.Prelude.{◌≡◌};
 ghost use Rattle.ea_model.specs.Words.{words};
 ghost use Rattle.ea_recorded.specs.Language.{addressed, line_of};
+ghost use Rattle.ea_recorded.specs.Told.{IsLineInRange};
 
 use ea_model::words::first_word;
 use ea_model::{Letter, Op};
@@ -44,7 +45,8 @@ pub struct OwnLine {
 
 /// A line that may be a scheduler's number and an operation.
 fn addressed_line(text: &[u8]) -> RecordedLine
-    ensures { result ≡ addressed (words text.now) }
+    ensures line { result ≡ addressed (words text.now) }
+    ensures range { IsLineInRange result }
 {
     let Some((word, rest)) = first_word(text) else {
         return RecordedLine::Unreadable;
@@ -60,7 +62,8 @@ fn addressed_line(text: &[u8]) -> RecordedLine
 
 /// What a line says.
 pub fn read_own(text: &[u8]) -> RecordedLine
-    ensures { result ≡ line_of (words text.now) }
+    ensures line { result ≡ line_of (words text.now) }
+    ensures range { IsLineInRange result }
 {
     match read_line(text) {
         Line::Skipped => RecordedLine::Skipped,

@@ -8,7 +8,7 @@ ghost use Rattle.ea_trace.specs.Language.{LineWords, WordLines};
 ghost use Rattle.ea_recorded.specs.Input.{GivesInput};
 ghost use Rattle.ea_recorded.specs.Language.{Asked, line_of, read_after, recorded, told_by};
 ghost use Rattle.ea_recorded.specs.Language as language;
-ghost use Rattle.ea_recorded.specs.Told.{AreTold, ToldLines};
+ghost use Rattle.ea_recorded.specs.Told.{AreTold, IsLineInRange, ToldLines};
 ghost use Rattle.ea_recorded.specs.declared.lines.Stage.TheVariants.{Start};
 
 use crate::input::RecordedInput;
@@ -82,6 +82,7 @@ struct Reading {
 
 /// Adds a line, if it is one of an operation.
 fn add(lines: &mut Vec<OwnLine>, number: u32, line: RecordedLine) -> Result<(), OutOfMemory>
+    requires range { IsLineInRange line }
     ensures { OnOk result ((told : ToldLines) (words : LineWords) → AreTold told lines.old.items
         → line ≡ line_of words
         → AreTold (told ++ told_by number words line) lines.new.items) }

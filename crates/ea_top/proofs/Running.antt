@@ -38,23 +38,26 @@ module _ (c : Config) (t : Trace) where
   -- the outcome is that of a course of it
   abbrev IsOutcomeBy : Outcome → Mode → Type 0
   IsOutcomeBy o m = (turns : List ℕ) × IsCourse (setup_by m) m turns
-      × (o ≡ outcome (setup_by m) turns)
+      × (o ≡ outcome (setup_by m) turns) × IsValidTrace c.schedulers (filled_by c.schedulers t m)
 
   outcome-by : (o : Outcome) (m : Mode) → m ≢ Threads
-      → o ≡ outcome (setup_by m) (course_of (setup_by m) m) → IsOutcomeBy o m
-  outcome-by o m h e = (complete (setup_by m) (turns_in m), scheduled (setup_by m) m h, e)
+      → o ≡ outcome (setup_by m) (course_of (setup_by m) m)
+      → IsValidTrace c.schedulers (filled_by c.schedulers t m) → IsOutcomeBy o m
+  outcome-by o m h e valid =
+      (complete (setup_by m) (turns_in m), scheduled (setup_by m) m h, e, valid)
 
   pub threads-ran : (o : Outcome) → t.mode ≡ Threads → IsOutcomeBy o Threads → IsRunOutcome c t o
   threads-ran o is h = subst (IsOutcomeBy o) (sym is) h
 
   pub given-ran : (o : Outcome) (turns : Items Turns) → t.mode ≡ Schedule turns
-      → o ≡ outcome_of c t → IsRunOutcome c t o
-  given-ran o turns is e = subst (IsOutcomeBy o) (sym is)
+      → o ≡ outcome_of c t → IsValidTrace c.schedulers t → IsRunOutcome c t o
+  given-ran o turns is e valid = subst (IsOutcomeBy o) (sym is)
       (outcome-by o (Schedule turns) (λ no. absurd cc)
-      (e ∙ ap (λ m. outcome (setup_of c t) (course_of (setup_of c t) m)) is))
+      (e ∙ ap (λ m. outcome (setup_of c t) (course_of (setup_of c t) m)) is) valid)
 
   pub generated-ran : (o : Outcome) (seed count : ℕ) → t.mode ≡ Generated seed count
       → o ≡ outcome_of c (generated_trace t.letter seed c.schedulers count)
+      → IsValidTrace c.schedulers (generated_trace t.letter seed c.schedulers count)
       → IsRunOutcome c t o
-  generated-ran o seed count is e = subst (IsOutcomeBy o) (sym is)
-      (outcome-by o (Generated seed count) (λ no. absurd cc) e)
+  generated-ran o seed count is e valid = subst (IsOutcomeBy o) (sym is)
+      (outcome-by o (Generated seed count) (λ no. absurd cc) e valid)

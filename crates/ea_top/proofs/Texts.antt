@@ -7,7 +7,7 @@ use Rattle.ea_model.specs.declared.trace.Mode.TheVariants.{Threads, Schedule, Ge
 use Rattle.ea_model.specs.declared.trace.Trace.{Trace}
 use Rattle.ea_model.specs.Outcome.{plain_outcome}
 use Rattle.ea_model.specs.Settings.{IsValidConfig}
-use Rattle.ea_model.specs.Trace.{IsValidTrace, plain, plain_mode}
+use Rattle.ea_model.specs.Trace.{plain, plain_mode}
 use Rattle.ea_model.proofs.Outcomes.{same-logs}
 use Rattle.ea_machine.specs.Completion.{course_of}
 use Rattle.ea_machine.specs.Courses.{IsCourse}
@@ -15,7 +15,7 @@ use Rattle.ea_machine.specs.Outcome.{outcome, outcome_of}
 use Rattle.ea_machine.specs.Setup.{Setup, setup_of}
 use Rattle.ea_top.specs.Output.{IsRunOutcome, IsRunText, filled_by, outcome_after, run_setup}
 use Rattle.ea_top.specs.Output.{text_by}
-use Rattle.ea_sound.proofs.Plain.{same-setup, valid-plain}
+use Rattle.ea_sound.proofs.Plain.{same-setup}
 use Rattle.ea_sound.proofs.Protocols.{always-protocol}
 use Rattle.ea_top.proofs.Valid.{filled-valid}
 
@@ -69,10 +69,9 @@ same_text (Generated seed count) o = rw (same-logs o) refl
 
 -- the text of an outcome of the run of a trace is one of the trace as a definition answers it
 pub run-text : (c : Config) (t : Trace) (o : Outcome) → IsValidConfig c
-    → IsValidTrace c.schedulers t → IsRunOutcome c t (plain_outcome o)
-    → IsRunText c (plain t) (text_by t.mode o)
-run-text c t o config trace h =
-    let valid = filled-valid c.schedulers t t.mode trace.mode (valid-plain c.schedulers t trace) in
+    → IsRunOutcome c t (plain_outcome o) → IsRunText c (plain t) (text_by t.mode o)
+run-text c t o config h =
+    let valid = filled-valid c.schedulers t t.mode h.3 in
     record {
       turns = h.0;
       course = same_course c t h.0 h.1;

@@ -34,9 +34,10 @@ module _ (c : Config) (t : Trace) where
   abbrev pub outcome_after : List ℕ → Outcome
   outcome_after turns = outcome run_setup turns
 
-  -- they are those of a course of the run
+  -- they are those of a course of the run, of a valid trace
   abbrev pub IsRunOutcome : Outcome → Type 0
   IsRunOutcome o = (turns : List ℕ) × IsCourse run_setup t.mode turns × (o ≡ outcome_after turns)
+      × IsValidTrace c.schedulers (filled_by c.schedulers t t.mode)
 
   -- the text is that of a course of it, and of this run, at each moment of each list of its steps,
   -- the protocol holds

@@ -72,8 +72,10 @@ fn run_generated(
 ) -> Result<Outcome, OutOfMemory>
     requires config { IsValidConfig config }
     requires mode { IsValidMode config.schedulers (Generated seed count) }
-    ensures { IfOk result (λ outcome. plain_outcome outcome
-        ≡ outcome_of config (generated_trace letter seed config.schedulers count)) }
+    ensures { IfOk result (λ outcome.
+        (let made = generated_trace letter seed config.schedulers count in
+        (plain_outcome outcome ≡ outcome_of config made)
+        × IsValidTrace config.schedulers made)) }
 {
     let trace = make_trace(alloc, letter, seed, config.schedulers, count)?;
     run_given(alloc, config, &trace)

@@ -1,7 +1,7 @@
 use Rattle.std.proofs.Common.{◌≡◌, subst}
 use Rattle.std.proofs.lemmas.Result.{IfOk-weaker}
 use Rattle.ea_model.specs.Outcome.{plain_outcome}
-use Rattle.ea_model.specs.Trace.{IsValidMode}
+use Rattle.ea_model.specs.Trace.{IsValidMode, IsValidTrace}
 use Rattle.ea_gen.specs.Generated.{generated_trace}
 use Rattle.ea_machine.specs.Outcome.{outcome_of}
 use Rattle.ea_table.specs.Threads.{IsOfRun}
@@ -26,7 +26,8 @@ returns-in-Threads g c =
     IfOk-weaker c.run_threads.result (IsOfRun d t)
     (λ o. IsRunOutcome d t (plain_outcome o))
     (λ o ran. threads-ran d t (plain_outcome o) c.in-Threads.is
-    (ran.turns, (ran.steps, ran.within, ran.rest), ran.printed)) c.run_threads.ensures.outcome
+    (ran.turns, (ran.steps, ran.within, ran.rest), ran.printed, c.requires.trace))
+    c.run_threads.ensures.outcome
 
 pub returns-in-Schedule : goal.returns-in-Schedule
 returns-in-Schedule g c =
@@ -34,7 +35,8 @@ returns-in-Schedule g c =
     let t = c.args.trace.now in
     IfOk-weaker c.run_given.result (λ o. plain_outcome o ≡ outcome_of d t)
     (λ o. IsRunOutcome d t (plain_outcome o))
-    (λ o ran. given-ran d t (plain_outcome o) c.in-Schedule.turns c.in-Schedule.is ran)
+    (λ o ran. given-ran d t (plain_outcome o) c.in-Schedule.turns c.in-Schedule.is ran
+    c.requires.trace)
     c.run_given.ensures.outcome
 
 pub returns-in-Generated : goal.returns-in-Generated
@@ -44,7 +46,8 @@ returns-in-Generated g c =
     let seed = c.in-Generated.seed in
     let count = c.in-Generated.count in
     IfOk-weaker c.run_generated.result
-    (λ o. plain_outcome o ≡ outcome_of d (generated_trace t.letter seed d.schedulers count))
+    (λ o. let made = generated_trace t.letter seed d.schedulers count in
+    (plain_outcome o ≡ outcome_of d made) × IsValidTrace d.schedulers made)
     (λ o. IsRunOutcome d t (plain_outcome o))
-    (λ o ran. generated-ran d t (plain_outcome o) seed count c.in-Generated.is ran)
+    (λ o ran. generated-ran d t (plain_outcome o) seed count c.in-Generated.is ran.0 ran.1)
     c.run_generated.ensures

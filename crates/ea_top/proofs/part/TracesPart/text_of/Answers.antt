@@ -15,8 +15,7 @@ returns-clause-text g c =
     (sym c.in_ok-trace.ensures.given) (
       refl,
       subst (IsRunText d (plain t)) (sym c.in_ok-print_run.ensures)
-          (run-text d t c.in_ok-outcome.outcome c.requires.config c.in_ok-trace.ensures.valid
-          c.in_ok-outcome.ensures),
+          (run-text d t c.in_ok-outcome.outcome c.requires.config c.in_ok-outcome.ensures),
     )
 
 pub returns-clause-promised : goal.returns-clause-promised
