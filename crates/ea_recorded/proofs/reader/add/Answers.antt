@@ -7,7 +7,7 @@ use Rattle.ea_recorded.proofs.reader.add.Goals as goal
 pub returns-in_ok-push : goal.returns-in_ok-push
 returns-in_ok-push c = λ told words are e.
     told-more told c.args.lines.now.items c.push.new.self.items c.args.number words c.args.line are e
-    c.requires
+    c.requires.range
     (c.in_ok-push.ensures.items
     ∙ ap (λ (l : RecordedLine). c.args.lines.now.items
     ++ map (λ (t : Told). t.own) (told_by c.args.number words l)) (sym c.in-Operation.is))
