@@ -6,7 +6,8 @@ from dataclasses import dataclass
 
 from picture_run import plural
 from picture_svg import MARGIN, flags_words, heading_of, rectangle, shape, svg_of, words_at
-from program import OF_HISTOGRAMS
+from picture_text import is_of_region
+from program import OF_HISTOGRAMS, OF_REGION, command_of
 from refused import Refused
 
 INTERVALS = 18
@@ -86,5 +87,8 @@ def drawing_of(name, words, histograms):
 
 def drawn_histograms(given, program, data):
     """What is written of the histograms of a trace: a path and a text."""
+    command = OF_REGION if is_of_region(data) else "".join(command_of(data.split(b"\n", 100)[:100]))
+    if command:
+        raise Refused(f"{given.trace}: --histograms draws those of a trace, and this is an input of `{command}`")
     found = read_histograms(program.run(data, given.trace, OF_HISTOGRAMS))
     yield given.histograms, drawing_of(given.trace, program.words, found)

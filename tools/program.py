@@ -49,6 +49,8 @@ def command_of(lines):
 RUNNING = set()
 LOCK = threading.Lock()
 IS_OVER = threading.Event()
+# What is said of a run whose seconds were over begins so.
+ENDED = "it was ended"
 
 
 class Ended(Exception):
@@ -66,7 +68,7 @@ def run(words, data, seconds=None):
         try:
             text, said = child.communicate(data, timeout=seconds)
         except subprocess.TimeoutExpired:
-            raise Ended(f"it was ended after {seconds} seconds") from None
+            raise Ended(f"{ENDED} after {seconds} seconds") from None
         finally:
             with LOCK:
                 RUNNING.discard(child)

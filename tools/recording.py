@@ -12,8 +12,13 @@ MOST_OPERATIONS = 1048576
 LARGEST_INPUT = 2**24
 MOST_BYTES = 1073741823
 END = "end\n"
+# What the comment lines on what was made have at most, but for the name of a mark.
+MOST_TOLD = 2048
+EVENTS = ("alloc", "free", "realloc", "to")
 # The turns that an operation takes with an empty queue, if no carrier migrates.
 TURNS = {"give": 2, "take": 2}
+# Whether a take finds its block depends on the turns of a trace, so there it tries often; and how often all may try.
+TRIES, MOST_TRIES = 1000, 100000000
 
 
 @dataclass
@@ -132,6 +137,9 @@ def read_recording(path):
     demand(made.types and made.marks, f"{path}: there is no `types` line or no `mark` line")
     demand(1 <= made.schedulers <= MOST_SCHEDULERS,
            f"{path}: the node has {made.schedulers} schedulers, and a run has 1 to {MOST_SCHEDULERS}")
+    for thread, scheduler in made.threads.items():
+        demand(scheduler <= made.schedulers,
+               f"{path}: thread {thread} has scheduler {scheduler}, and the node has {made.schedulers}")
     made.lines = at
     return made
 
@@ -157,29 +165,42 @@ class Block:
 class Maker:
     """Follows the events of one allocator, and makes operations of them: (scheduler, line), and (0, mark)."""
 
-    def __init__(self, recording, letter, others, more):
+    def __init__(self, recording, letter, others, more, is_trace, told):
+        """Comment lines of so many bytes come before the operations."""
         self.threads = {it: number or others for it, number in recording.threads.items()}
-        self.letter, self.more = letter, more
+        self.letter, self.more, self.is_trace = letter, more, is_trace
         self.blocks, self.moving = {}, {}
         self.lines, self.names, self.operations = [], 0, 0
-        self.size = len(f"type {letter}\n") + len(END)
+        self.size = told + len(f"type {letter}\n") + len(END)
+        if is_trace:
+            self.size += sum(len(it) for it in heads(recording.schedulers))
         self.counts, self.said = Counter(), Counter()
+
+    def size_of(self, me, line):
+        """The bytes that an operation takes; in a trace with its turns, which take fewer where they are put together."""
+        if not self.is_trace:
+            return len(f"{me} {line}\n")
+        return len(in_section(f"{line}\n")) + len(turns_word(me, turns_of(line)))
 
     def add(self, *operations):
         """Adds all of them, or none where they don't fit."""
-        texts = [(me, f"{me} {line}\n") for me, line in operations]
-        size = sum(len(it) for _, it in texts)
-        if self.operations + len(texts) > MOST_OPERATIONS or self.size + size > LARGEST_INPUT:
+        kinds = [line.split(" ", 1)[0] for _, line in operations]
+        size = sum(self.size_of(*it) for it in operations)
+        takes = self.counts["take"] + kinds.count("take")
+        if self.operations + len(kinds) > MOST_OPERATIONS or self.size + size > LARGEST_INPUT:
+            raise Full
+        if self.is_trace and takes * TRIES > MOST_TRIES:
             raise Full
         self.size += size
-        self.operations += len(texts)
-        self.lines += texts
-        for _, line in operations:
-            self.counts[line.split(" ", 1)[0]] += 1
+        self.operations += len(kinds)
+        self.lines += [(me, f"{me} {line}\n") for me, line in operations]
+        for kind in kinds:
+            self.counts[kind] += 1
 
     def mark(self, name):
+        """A comment line; a trace has none, since in a section it would be none of the others'."""
         line = f"# mark {name}\n"
-        if self.size + len(line) <= LARGEST_INPUT:
+        if not self.is_trace and self.size + len(line) <= LARGEST_INPUT:
             self.size += len(line)
             self.lines.append((0, line))
 
@@ -234,6 +255,8 @@ class Maker:
     def take(self, words):
         """Takes over an event."""
         kind, thread, place = words[0], words[2], words[3]
+        if kind not in EVENTS:
+            raise ValueError(kind)
         me = self.scheduler(thread)
         if kind in ("alloc", "to") and place in self.blocks:
             # A lost event was its free.
@@ -311,24 +334,41 @@ def as_recorded(maker):
     return [text for _, text in maker.lines]
 
 
+def heads(schedulers):
+    """The lines at which the parts of a trace begin."""
+    return [*(f"scheduler {it}\n" for it in range(1, schedulers + 1)), "schedule\n"]
+
+
+def in_section(line):
+    return line.replace(" 1\n", f" {TRIES}\n") if line.startswith("take ") else line
+
+
+def turns_of(line):
+    return TURNS.get(line.split(" ", 1)[0], 1)
+
+
+def turns_word(me, count):
+    """With what parts it from the next one."""
+    return f"{me}*{count} "
+
+
 def as_trace(maker, schedulers):
     """The sections, and turns that follow the order about: as many as the operations take with empty queues, if no
     carrier migrates."""
     sections = [[] for _ in range(schedulers)]
     turns = []
     for me, text in maker.lines:
-        if me:
-            line = text.split(" ", 1)[1]
-            sections[me - 1].append(line.replace(" 1\n", " 1000\n") if line.startswith("take ") else line)
-            count = TURNS.get(line.split(" ", 1)[0], 1)
-            if turns and turns[-1][0] == me:
-                turns[-1][1] += count
-            else:
-                turns.append([me, count])
-    for me, section in enumerate(sections, 1):
-        yield f"scheduler {me}\n"
+        line = text.split(" ", 1)[1]
+        sections[me - 1].append(in_section(line))
+        if turns and turns[-1][0] == me:
+            turns[-1][1] += turns_of(line)
+        else:
+            turns.append([me, turns_of(line)])
+    *begins, schedule = heads(schedulers)
+    for begin, section in zip(begins, sections):
+        yield begin
         yield from section
-    yield "schedule\n"
-    words = [f"{me}*{count}" for me, count in turns]
+    yield schedule
+    words = [turns_word(*it) for it in turns]
     for at in range(0, len(words), 16):
-        yield " ".join(words[at : at + 16]) + "\n"
+        yield "".join(words[at : at + 16]).rstrip() + "\n"

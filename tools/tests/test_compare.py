@@ -322,7 +322,7 @@ class Compare(unittest.TestCase):
         words = ["--program", "./slow", "--seconds", "3", *KEPT_APART, "--as", "json"]
         status, text, said = self.compare(self.file("a.trace", one()), *words)
         self.assertLess(time.monotonic() - began, 40)
-        self.assertEqual((status, said), (1, "compare: it was ended after 3 seconds\n"))
+        self.assertEqual((status, said), (1, "compare: a.trace: +MHacul 0: it was ended after 3 seconds\n"))
         self.assertEqual(json.loads(text)[0]["status"], None)
 
     # Recorded operations

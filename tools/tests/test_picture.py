@@ -560,8 +560,6 @@ class Regions(Case):
         self.refused(f"{trace}: there is no type H", *words, "--type", "H")
         self.refused("the words after --: word 2: unknown flag", *words, "--", "super", "+MHfoo", "1",
                      expected="a flag; near it are +MHt +MHe")
-        self.refused(f"{trace}: line 1: syntax", "--trace", trace, "--histograms", self.path("a.svg"),
-                     expected="`type X` first, of B D E H L R S T")
         trace = self.region("take 1 0")
         expected = "`take NAME PAGES`, NAME 1 to 1048576, PAGES 1 to 131072"
         self.refused(f"{trace}: line 3: syntax", *words, expected=expected)
@@ -583,6 +581,13 @@ class Histograms(Case):
     def test_a_trace_without_a_schedule(self):
         trace = self.write("a.trace", "type H\nscheduler 1\nthreads\nend\n")
         self.refused(f"{trace}: schedule wanted", "--trace", trace, "--histograms", self.path("a.svg"))
+
+    def test_an_input_that_is_no_trace(self):
+        for text, command in (("types H B\nscheduler 1\nschedule\nend\n", "types"),
+                              ("type H\n1 alloc 1 8\nend\n", "recorded"), ("super\nscheduler 1\nend\n", "super")):
+            trace = self.write("a.trace", text)
+            said = f"{trace}: --histograms draws those of a trace, and this is an input of `{command}`"
+            self.refused(said, "--trace", trace, "--histograms", self.path("a.svg"))
 
 
 class Interrupts(Case):

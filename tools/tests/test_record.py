@@ -138,6 +138,15 @@ class Events(Case):
         self.assertEqual(lines[-2].split()[:2], ["2", "free"])
         self.assertIn("# CUT: ", text)
 
+    def test_a_trace_is_cut_where_its_takes_would_try_too_often(self):
+        """100000 takes of 1000 tries each are as many tries as a trace may have."""
+        pairs = (f"alloc B 1 {it:x} 8\nfree B 2 {it:x}\n" for it in range(100001))
+        path = self.write("a.record", HEAD.replace("mark 100 end", "mark 200002 end") + "".join(pairs))
+        text = self.load("--recorded", path, "--type", "B", "--as", "trace")
+        self.assertEqual(text.count("take "), 100000 + text.partition("type B")[0].count("take "))
+        self.assertIn("# CUT: ", text)
+        self.assertNotIn("# CUT: ", self.load("--recorded", path, "--type", "B"))
+
     def test_the_flags_of_the_node(self):
         path = self.write("a.record", HEAD)
         text = self.load("--recorded", path, "--type", "B", "--node-flags", f"{self.room}/a.flags")
@@ -157,13 +166,16 @@ class Events(Case):
             HEAD.replace("schedulers 2", "schedulers x"): "line 4: 'x' is no number",
             HEAD.replace("schedulers 2", "schedulers 65"): "the node has 65 schedulers, and a run has 1 to 64",
             HEAD + "alloc B 1\n": "line 23: it is no event",
+            HEAD + "frob B 1 a0\n": "line 23: it is no event",
+            HEAD.replace("thread 2 2", "thread 2 3"): "thread 2 has scheduler 3, and the node has 2",
         }
         for text, said in cases.items():
             path = self.write("a.record", text)
             self.assertEqual(self.load("--recorded", path, "--type", "B", status=1), f"load: {path}: {said}\n")
         path = self.write("a.record", HEAD)
         for words, said in (((), "it has the types B H: choose by --type"), (("--type", "E"), "it has no type E"),
-                            (("--type", "B", "--until", "x"), "there is no mark x: there are begin, middle, end")):
+                            (("--type", "B", "--until", "x"), "there is no mark x: there are begin, middle, end"),
+                            (("--type", "B", "--others", "3"), "--others 3, and the node has 2 schedulers")):
             self.assertEqual(self.load("--recorded", path, *words, status=1), f"load: {path}: {said}\n")
 
     def test_beside_a_run(self):
