@@ -167,7 +167,7 @@ class Maker:
 
     def __init__(self, recording, letter, others, more, is_trace, told):
         """Comment lines of so many bytes come before the operations."""
-        self.threads = {it: number or others for it, number in recording.threads.items()}
+        self.threads, self.others = recording.threads, others
         self.letter, self.more, self.is_trace = letter, more, is_trace
         self.blocks, self.moving = {}, {}
         self.lines, self.names, self.operations = [], 0, 0
@@ -205,7 +205,8 @@ class Maker:
             self.lines.append((0, line))
 
     def scheduler(self, thread):
-        return self.threads.get(thread, 0)
+        """That of a thread; of one that is no scheduler the one that does its operations, 0 if none does."""
+        return self.threads.get(thread, 0) or self.others
 
     def alloc(self, me, place, size):
         if not me:

@@ -98,8 +98,9 @@ class Events(Case):
     def test_threads_that_are_no_schedulers(self):
         events = "alloc B 3 a0 100", "free B 1 a0", "alloc B 1 c0 100", "free B 3 c0"
         self.assertEqual(self.made(*events)[1:-1], ["1 alloc 1 100", "1 free 1"])
-        lines = self.made(*events, more=("--others", "2"))
-        self.assertEqual(lines[1:4], ["2 alloc 1 100", "2 give 1 1", "1 take 1 1"])
+        for thread in "34":
+            lines = self.made(*(it.replace(" 3 ", f" {thread} ") for it in events), more=("--others", "2"))
+            self.assertEqual(lines[1:4], ["2 alloc 1 100", "2 give 1 1", "1 take 1 1"])
 
     def test_a_reallocation_by_a_thread_that_is_no_scheduler(self):
         lines = self.made("alloc B 1 a0 100", "realloc B 3 a0 200", "to B 3 c0", "free B 1 c0")
