@@ -82,9 +82,8 @@ struct Reading {
 
 /// Adds a line, if it is one of an operation.
 fn add(lines: &mut Vec<OwnLine>, number: u32, line: RecordedLine) -> Result<(), OutOfMemory>
-    requires range { IsLineInRange line }
     ensures { OnOk result ((told : ToldLines) (words : LineWords) → AreTold told lines.old.items
-        → line ≡ line_of words
+        → line ≡ line_of words → IsLineInRange line
         → AreTold (told ++ told_by number words line) lines.new.items) }
 {
     if let RecordedLine::Operation { scheduler, op } = line {

@@ -5,9 +5,9 @@ use Rattle.ea_recorded.proofs.Reached.{told-more}
 use Rattle.ea_recorded.proofs.reader.add.Goals as goal
 
 pub returns-in_ok-push : goal.returns-in_ok-push
-returns-in_ok-push c = λ told words are e.
+returns-in_ok-push c = λ told words are e range.
     told-more told c.args.lines.now.items c.push.new.self.items c.args.number words c.args.line are e
-    c.requires.range
+    range
     (c.in_ok-push.ensures.items
     ∙ ap (λ (l : RecordedLine). c.args.lines.now.items
     ++ map (λ (t : Told). t.own) (told_by c.args.number words l)) (sym c.in-Operation.is))

@@ -31,4 +31,4 @@ returns-clause-ok c = λ n number asked left h.
     c.if-not-may_stand.false c.if-is_bad.false _ refl refl
     (said-next ws _ r.stage c.read_own-line.ensures.line _ c.next-self.ensures)
     (λ told are. said-told ws _ r.number told c.add.new.lines.items c.read_own-line.ensures.line
-    (c.in_ok-add.ensures told ws are c.read_own-line.ensures.line))
+    (c.in_ok-add.ensures told ws are c.read_own-line.ensures.line c.read_own-line.ensures.range))
