@@ -1,6 +1,7 @@
 //! What a scheduler's log says of its operations, one entry each, and of its stop.
 
 use crate::carriers::Place;
+use std::alloc::AllocError;
 
 /// Why no carrier was created.
 #[derive(Debug, Clone, Copy, PartialEq, Eq)]
@@ -37,7 +38,7 @@ pub struct Reports {
 
 /// What came of an operation. A type parameter stands for the allocator information: in what
 /// contracts see it is the reports themselves, and a log keeps where they stand.
-#[derive(Debug, Clone, Copy, PartialEq, Eq)]
+#[derive(Debug, Copy, PartialEq, Eq)]
 pub enum Entry<R> {
     /// A block was placed.
     Alloc {
@@ -126,4 +127,10 @@ pub enum Entry<R> {
     Stopped {
         steps: u32,
     },
+}
+
+impl<R: Copy> Clone for Entry<R> {
+    fn clone(&self) -> Result<Self, AllocError> {
+        Ok(*self)
+    }
 }
