@@ -11,8 +11,6 @@ pub mod operations;
 pub mod outcome;
 pub mod reallocation;
 pub mod settings;
-#[cfg(test)]
-mod tests;
 pub mod trace;
 pub mod units;
 pub mod words;
