@@ -8,8 +8,6 @@ mod entries;
 mod lines;
 mod summary;
 mod tails;
-#[cfg(test)]
-mod tests;
 mod text;
 
 pub use beside::{print_beside, put_beside};

@@ -1,8 +1,11 @@
-//! Tests of lists, of units and of words, with values that were worked out by hand.
+//! Tests of lists, of units and of words, and of what is printed of a run, with values that were
+//! worked out by hand.
 #![tactic(auto)]
 
 #[cfg(test)]
 mod lists;
+#[cfg(test)]
+mod report;
 #[cfg(test)]
 mod units;
 #[cfg(test)]

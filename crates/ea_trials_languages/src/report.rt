@@ -1,11 +1,9 @@
 //! The line of each kind of entry, the words of carriers, and whole texts of both forms.
-use crate::carriers::put_carrier;
-use crate::entries::put_log;
-use crate::{print, print_beside, print_summary};
 use ea_model::{
     CarrierLine, Entry, Kind, List, Log, NoCarrier, OutOfMemory, Outcome, Place, Report, Reports,
     Standing, Totals, Triple,
 };
+use ea_report::{print, print_beside, print_summary, put_outcome};
 use std::alloc::Global;
 use std::test::Fail;
 
@@ -26,6 +24,53 @@ fn report(first: u64) -> Report {
         carriers: triple(first.saturating_add(6)),
         carriers_size: triple(first.saturating_add(9)),
     }
+}
+
+// The log with these entries.
+fn log_of(alloc: Global, entries: &[Entry<Reports>]) -> Result<Log, OutOfMemory> {
+    let mut log = Log::new(alloc);
+    for entry in entries {
+        log.reserve(1)?;
+        log.push_within(*entry);
+    }
+    Ok(log)
+}
+
+// The outcome of a run with these logs, which left these carriers.
+fn outcome(
+    alloc: Global,
+    logs: &[&[Entry<Reports>]],
+    carriers: &[CarrierLine],
+) -> Result<Outcome, OutOfMemory> {
+    let mut outcome = Outcome {
+        logs: List::new(alloc),
+        carriers: List::new(alloc),
+        totals: Totals {
+            carriers: 1,
+            units: 16_384,
+            live: 14,
+            queued: 28,
+            free: 16_334,
+            header: 8,
+        },
+    };
+    for log in logs {
+        outcome.logs.push(log_of(alloc, log)?)?;
+    }
+    outcome.carriers.extend_from_slice(carriers)?;
+    Ok(outcome)
+}
+
+// The line of its totals.
+const TOTALS: &str = "total carriers 1 units 16384 live 14 queued 28 free 16334 header 8\n";
+
+// Texts one after another.
+fn joined(alloc: Global, texts: &[&str]) -> Result<List<u8>, OutOfMemory> {
+    let mut joined = List::new(alloc);
+    for text in texts {
+        joined.extend_from_slice(text.as_bytes())?;
+    }
+    Ok(joined)
 }
 
 #[test]
@@ -134,14 +179,12 @@ fn each_kind_of_entry_has_its_line(rt: HostRuntime) -> Result<(), Fail> {
         (Entry::Stopped { steps: 522 }, "stopped 522\n"),
     ];
     for (entry, line) in cases {
+        let outcome = outcome(rt.alloc(), &[&[entry]], &[])?;
         let mut text = List::new(rt.alloc());
         text.push(b'>')?;
-        put_log(&mut text, &log_of(rt.alloc(), &[entry])?)?;
-        assert_eq!(rt;
-            text.as_slice().split_first(),
-            Some((&b'>', line.as_bytes())),
-            "of {entry:?}"
-        );
+        put_outcome(&mut text, &outcome)?;
+        let wanted = joined(rt.alloc(), &[">scheduler 1\n", line, TOTALS])?;
+        assert_eq!(rt; text.as_slice(), wanted.as_slice(), "of {entry:?}");
     }
     Ok(())
 }
@@ -182,46 +225,15 @@ fn a_carrier_has_its_kind_and_its_standing(rt: HostRuntime) -> Result<(), Fail> 
             allocated: 56,
             largest: 16_000,
         };
-        let mut text = List::new(rt.alloc());
-        put_carrier(&mut text, carrier)?;
-        assert_eq!(rt; text.as_slice(), line.as_bytes(), "of {kind:?} {word:?}");
+        let printed = print(rt.alloc(), &outcome(rt.alloc(), &[], &[carrier])?)?;
+        let wanted = joined(rt.alloc(), &[line, TOTALS])?;
+        assert_eq!(rt;
+            printed.as_slice(),
+            wanted.as_slice(),
+            "of {kind:?} {word:?}"
+        );
     }
     Ok(())
-}
-
-// The log with these entries.
-fn log_of(alloc: Global, entries: &[Entry<Reports>]) -> Result<Log, OutOfMemory> {
-    let mut log = Log::new(alloc);
-    for entry in entries {
-        log.reserve(1)?;
-        log.push_within(*entry);
-    }
-    Ok(log)
-}
-
-// The outcome of a run with these logs, which left these carriers.
-fn outcome(
-    alloc: Global,
-    logs: &[&[Entry<Reports>]],
-    carriers: &[CarrierLine],
-) -> Result<Outcome, OutOfMemory> {
-    let mut outcome = Outcome {
-        logs: List::new(alloc),
-        carriers: List::new(alloc),
-        totals: Totals {
-            carriers: 1,
-            units: 16_384,
-            live: 14,
-            queued: 28,
-            free: 16_334,
-            header: 8,
-        },
-    };
-    for log in logs {
-        outcome.logs.push(log_of(alloc, log)?)?;
-    }
-    outcome.carriers.extend_from_slice(carriers)?;
-    Ok(outcome)
 }
 
 const PLACED: &[Entry<Reports>] = &[
