@@ -7,8 +7,6 @@ mod kind;
 mod maker;
 mod numbers;
 mod section;
-#[cfg(test)]
-mod tests;
 mod texts;
 mod trace;
 

@@ -1,9 +1,9 @@
-//! Texts that were worked out apart from the program.
+//! Generated traces, whose texts were worked out apart from the program.
 ghost use Rattle.std.specs.Prelude.{◌≡◌, [], ◌∷◌};
 ghost use Rattle.ea_model.specs.declared.operations.Op.TheVariants.{Alloc, Free, Give, Take};
 ghost use Rattle.ea_gen.specs.Generated.{generated};
 
-use crate::make_trace;
+use ea_gen::make_trace;
 use ea_model::{Letter, Mode, Op};
 use std::test::Fail;
 
