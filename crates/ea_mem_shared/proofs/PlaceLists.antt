@@ -1,5 +1,5 @@
 -- Lists of places, and the places that they are.
-use Rattle.std.proofs.Common.{◌≡◌, ◌≢◌, ℕ, zero, suc, ◌≤◌, Bool, true, false, List, []}
+use Rattle.std.proofs.Common.{◌≡◌, ℕ, zero, suc, ◌≤◌, Bool, true, false, List, []}
 use Rattle.std.proofs.Common.{◌∷◌, get_or, length, map, refl, sym, ap, ◌∙◌, inl, inr, arith}
 use Rattle.std.specs.Prelude.{replicate, set}
 use Rattle.std.proofs.lemmas.Bool.{cases_lt}
@@ -9,7 +9,7 @@ use Rattle.ea_model.specs.Content.{Content}
 use Rattle.ea_machine.specs.declared.owners.OwnerWord.{OwnerWord}
 use Rattle.ea_machine.specs.declared.owners.OwnerWord.TheVariants as word
 use Rattle.ea_machine.specs.Owners.{CarrierAt, Absent, Pooled, same_word, word_of}
-use Rattle.ea_machine.specs.Rows.{Lost, Won}
+use Rattle.ea_machine.specs.Rows.{Won}
 use Rattle.ea_machine.specs.Table.{tried_at, won_if}
 use Rattle.ea_mem_shared.specs.declared.carriers.Place.{Place}
 use Rattle.ea_mem_shared.specs.Counted.{is_counted}
@@ -49,30 +49,6 @@ same-itself (word.Employed i) = grind arith
 same-itself (word.Pooled i g) = grind arith
 same-itself (word.Busy i) = grind arith
 same-itself (word.Returning i) = grind arith
-
-pub same-not : (v w : OwnerWord) → v ≢ w → same_word v w ≡ false
-same-not v w other = by (same_word v w) refl where
-  both : (v w : OwnerWord) → same_word v w ≡ true → v ≡ w
-  both word.Absent word.Absent q = refl
-  both (word.Employed i) (word.Employed j) q =
-      let e : i ≡ j = grind (arith, q) in ap word.Employed e
-  both (word.Pooled i g) (word.Pooled j h) q =
-      let e : i ≡ j = grind (arith, q) in
-      let f : g ≡ h = grind (arith, q) in
-      ap (λ k. word.Pooled k g) e ∙ ap (word.Pooled j) f
-  both (word.Busy i) (word.Busy j) q = let e : i ≡ j = grind (arith, q) in ap word.Busy e
-  both (word.Returning i) (word.Returning j) q =
-      let e : i ≡ j = grind (arith, q) in ap word.Returning e
-  both v w q = absurd cc
-
-  by : (b : Bool) → same_word v w ≡ b → same_word v w ≡ false
-  by false q = q
-  by true q = absurd (other (both v w q))
-
--- where another word is there the try is lost
-pub tried-lost : (seen : OwnerWord) (p : CarrierAt) → word_of p ≢ seen
-    → tried_at seen p ≡ Lost (word_of p)
-tried-lost seen p other = ap (λ b. won_if b p) (same-not (word_of p) seen other)
 
 -- where it is the one seen the try is won
 pub tried-won : (seen : OwnerWord) (p : CarrierAt) (i g : ℕ) (x : Content) → p ≡ Pooled i g x

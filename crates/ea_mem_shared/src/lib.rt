@@ -5,7 +5,5 @@
 mod carriers;
 mod counted;
 mod mem;
-#[cfg(test)]
-mod tests;
 
 pub use mem::MemShared;

@@ -4,11 +4,11 @@ use Rattle.ea_machine.specs.Machine.{start}
 use Rattle.ea_machine.specs.Owners.{Absent}
 use Rattle.ea_machine.specs.Setup.{setup_of}
 use Rattle.ea_machine.specs.Shared.{Shared}
-use Rattle.ea_mem_shared.proofs.Following.{first-absent}
+use Rattle.ea_trials_schedulers.proofs.Following.{first-absent}
 use Rattle.ea_mem_shared.specs.Memory.{shared_of}
 use Rattle.ea_mem_shared.specs.Places.{place_at}
-use Rattle.ea_mem_shared.specs.declared.tests.TheConstants.{MIGRATING}
-use Rattle.ea_mem_shared.proofs.tests.migrating.Goals as goal
+use Rattle.ea_trials_schedulers.specs.declared.shared.TheConstants.{MIGRATING}
+use Rattle.ea_trials_schedulers.proofs.shared.migrating.Goals as goal
 
 pub returns-clause-absent : goal.returns-clause-absent
 returns-clause-absent c =

@@ -7,8 +7,8 @@ use Rattle.ea_machine.specs.Nodes.{first_node}
 use Rattle.ea_machine.specs.Rows.{Link, Push, TakeAll}
 use Rattle.ea_machine.specs.Shared.{Shared}
 use Rattle.ea_machine.specs.Table.{effect}
-use Rattle.ea_mem_shared.proofs.Following.{after-row, none-there, nothing_shared}
-use Rattle.ea_mem_shared.proofs.tests.a_walk_passes_the_newest_node_first.Goals as goal
+use Rattle.ea_trials_schedulers.proofs.Following.{after-row, none-there, nothing_shared}
+use Rattle.ea_trials_schedulers.proofs.shared.a_walk_passes_the_newest_node_first.Goals as goal
 
 abbrev older : Node
 older = Block 1 (record { carrier = 1025; offset = 8 })

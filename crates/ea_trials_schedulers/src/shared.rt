@@ -1,4 +1,4 @@
-//! Rows that two schedulers do, one after another.
+//! Rows that two schedulers do in plain memory, one after another.
 ghost use Rattle.std.specs.Prelude.{◌≡◌, [], ◌∷◌, true, IfOk};
 ghost use Rattle.ea_model.specs.declared.carriers.Kind.TheVariants.{Multi};
 ghost use Rattle.ea_model.specs.declared.settings.Letter.TheVariants as letter;
@@ -6,8 +6,8 @@ ghost use Rattle.ea_machine.specs.Owners.{Absent, Pooled};
 ghost use Rattle.ea_mem_shared.specs.Memory.{shared_of};
 ghost use Rattle.ea_mem_shared.specs.Places.{place_at};
 
-use crate::MemShared;
 use ea_machine::{Node, OwnerWord};
+use ea_mem_shared::MemShared;
 use ea_model::{Carried, Config, Letter, List, Mode, OutOfMemory, Settings, Spot, Strategy, Trace};
 use ea_shared::{Link, Rested, Shared, Tried};
 use std::alloc::Global;

@@ -2,8 +2,8 @@ use Rattle.std.proofs.Common.{◌≡◌, None, refl, sym, subst}
 use Rattle.ea_machine.specs.Nodes.{spot_named}
 use Rattle.ea_machine.specs.Shared.{Shared}
 use Rattle.ea_machine.specs.Table.{effect}
-use Rattle.ea_mem_shared.proofs.Following.{after-row}
-use Rattle.ea_mem_shared.proofs.tests.a_given_name_is_taken_once.Goals as goal
+use Rattle.ea_trials_schedulers.proofs.Following.{after-row}
+use Rattle.ea_trials_schedulers.proofs.shared.a_given_name_is_taken_once.Goals as goal
 
 pub give-requires-clause-fresh : goal.give-requires-clause-fresh
 unfolding effect

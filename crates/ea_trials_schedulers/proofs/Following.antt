@@ -1,5 +1,5 @@
 -- What is shared after rows that were done in plain memory, one after another.
-use Rattle.std.proofs.Common.{◌≡◌, ◌≢◌, ℕ, Bool, true, false, ◌&&◌, List, [], ◌∷◌, Some}
+use Rattle.std.proofs.Common.{◌≡◌, ℕ, Bool, true, false, ◌&&◌, List, [], ◌∷◌, Some}
 use Rattle.std.proofs.Common.{refl, ap, ◌∙◌, arith}
 use Rattle.std.specs.Prelude.{All}
 use Rattle.std.proofs.lemmas.List.Elements.{All-nil, All-cons}
@@ -13,14 +13,13 @@ use Rattle.ea_machine.specs.declared.owners.OwnerWord.TheVariants as word
 use Rattle.ea_machine.specs.Alike.{HasNoAlike, alike_in, are_alike}
 use Rattle.ea_machine.specs.Machine.{start}
 use Rattle.ea_machine.specs.Nodes.{Mark}
-use Rattle.ea_machine.specs.Owners.{Absent, Employed, Pooled, Busy, employed_if, word_of}
+use Rattle.ea_machine.specs.Owners.{Absent, Employed, Pooled, Busy, employed_if}
 use Rattle.ea_machine.specs.Rows.{Answer, Row, Abandon, BusyTry, Create, FetchTry}
 use Rattle.ea_machine.specs.Setup.{migration, setup_of}
 use Rattle.ea_machine.specs.Shared.{Shared, put}
-use Rattle.ea_machine.specs.Table.{effect, moved_if}
+use Rattle.ea_machine.specs.Table.{effect, moved_if, tried_at}
 use Rattle.ea_machine.specs.Sums.{one_if}
 use Rattle.ea_shared.specs.Calls.{HasEffect}
-use Rattle.ea_mem_shared.proofs.PlaceLists.{tried-lost, tried-won}
 
 told-is : (s t : Shared) → Some s ≡ Some t → s ≡ t
 told-is s t e = cc
@@ -81,6 +80,10 @@ full = record {
   blocks = record { name = 1; offset = 8; size = 14 } ∷ [];
 }
 
+-- its word in the pool
+abbrev shown : OwnerWord
+shown = word.Pooled 1 490
+
 -- the row was done on what is shared
 abbrev Done : ℕ → Answer → Shared → Shared → Row → Type 0
 Done me got s t row = HasEffect me row got (Some t) s
@@ -100,26 +103,24 @@ module _ {me : ℕ} {got : Answer} {s t : Shared} where
   after-abandon x d = here (Abandon x) x.number d
       ∙ put-same s.places x.number (Pooled me (largest (gaps_of x)) x)
 
-  -- after a try of a carrier in the pool
-  module _ (n i g : ℕ) (x : Content) (is : s.places n ≡ Pooled i g x) where
-    pub after-busy : Done me got s t (BusyTry n (word.Pooled i g)) → t.places n ≡ Busy me
+  -- after a try of that carrier in the pool
+  module _ (is : s.places 2 ≡ Pooled 1 490 full) where
+    pub after-busy : Done me got s t (BusyTry 2 shown) → t.places 2 ≡ Busy me
     unfolding effect
-    after-busy d = here (BusyTry n (word.Pooled i g)) n d
-        ∙ ap (λ r. (moved_if r n (Busy me) s).places n)
-        (tried-won (word.Pooled i g) (s.places n) i g x is (ap word_of is))
-        ∙ put-same s.places n (Busy me)
+    after-busy d = here (BusyTry 2 shown) 2 d
+        ∙ ap (λ p. (moved_if (tried_at shown p) 2 (Busy me) s).places 2) is
+        ∙ put-same s.places 2 (Busy me)
 
-    pub after-fetch : Done me got s t (FetchTry n (word.Pooled i g)) → t.places n ≡ Employed me
+    pub after-fetch : Done me got s t (FetchTry 2 shown) → t.places 2 ≡ Employed me
     unfolding effect
-    after-fetch d = here (FetchTry n (word.Pooled i g)) n d
-        ∙ ap (λ r. (moved_if r n (Employed me) s).places n)
-        (tried-won (word.Pooled i g) (s.places n) i g x is (ap word_of is))
-        ∙ put-same s.places n (Employed me)
+    after-fetch d = here (FetchTry 2 shown) 2 d
+        ∙ ap (λ p. (moved_if (tried_at shown p) 2 (Employed me) s).places 2) is
+        ∙ put-same s.places 2 (Employed me)
 
-  -- after one that is lost
-  pub after-lost : (n : ℕ) (seen : OwnerWord) → word_of (s.places n) ≢ seen
-      → Done me got s t (FetchTry n seen) → t.places n ≡ s.places n
+  -- after one that is lost, since it is busy
+  pub after-lost : (i : ℕ) → s.places 2 ≡ Busy i → Done me got s t (FetchTry 2 shown)
+      → t.places 2 ≡ Busy i
   unfolding effect
-  after-lost n seen other d = here (FetchTry n seen) n d
-      ∙ ap (λ r. (moved_if r n (Employed me) s).places n)
-      (tried-lost seen (s.places n) other)
+  after-lost i is d = here (FetchTry 2 shown) 2 d
+      ∙ ap (λ p. (moved_if (tried_at shown p) 2 (Employed me) s).places 2) is
+      ∙ is

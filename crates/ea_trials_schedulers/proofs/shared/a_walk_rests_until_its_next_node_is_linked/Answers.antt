@@ -6,8 +6,8 @@ use Rattle.ea_machine.specs.Guards.{IsUnlinkedAt}
 use Rattle.ea_machine.specs.Nodes.{first_node}
 use Rattle.ea_machine.specs.Shared.{Shared}
 use Rattle.ea_machine.specs.Table.{effect}
-use Rattle.ea_mem_shared.proofs.Following.{after-row, none-there, nothing_shared}
-use Rattle.ea_mem_shared.proofs.tests.a_walk_rests_until_its_next_node_is_linked.Goals as goal
+use Rattle.ea_trials_schedulers.proofs.Following.{after-row, none-there, nothing_shared}
+use Rattle.ea_trials_schedulers.proofs.shared.a_walk_rests_until_its_next_node_is_linked.Goals as goal
 
 abbrev older : Node
 older = Block 1 (record { carrier = 1025; offset = 8 })

@@ -1,5 +1,5 @@
-use Rattle.ea_mem_shared.proofs.Following.{after-abandon, after-create, full}
-use Rattle.ea_mem_shared.proofs.tests.abandoned.Goals as goal
+use Rattle.ea_trials_schedulers.proofs.Following.{after-abandon, after-create, full}
+use Rattle.ea_trials_schedulers.proofs.shared.abandoned.Goals as goal
 
 pub abandon-requires-clause-employed : goal.abandon-requires-clause-employed
 abandon-requires-clause-employed c = after-create 2 c.create.ensures.row.shared
