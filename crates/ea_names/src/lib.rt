@@ -5,8 +5,6 @@
 
 mod groups;
 mod names;
-#[cfg(test)]
-mod tests;
 
 pub use groups::GROUP;
 pub use names::Names;

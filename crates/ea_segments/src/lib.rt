@@ -17,8 +17,6 @@ mod making;
 mod pass;
 mod playing;
 mod rule;
-#[cfg(test)]
-mod tests;
 mod views;
 
 pub use calls::{Book, Call, Reply, Request};

@@ -28,8 +28,6 @@
 
 mod nodes;
 mod owners;
-#[cfg(test)]
-mod tests;
 mod words;
 
 pub use nodes::{decode_node, encode_node};

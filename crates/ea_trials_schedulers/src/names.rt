@@ -1,6 +1,6 @@
 //! Names that are held and let go.
-use crate::{GROUP, Names};
 use ea_model::Spot;
+use ea_names::{GROUP, Names};
 use std::test::Fail;
 
 const FIRST: Spot = Spot {

@@ -1,7 +1,7 @@
 //! Nodes, owner words and their numbers.
-use crate::{decode, decode_node, encode, encode_node};
 use ea_machine::{Node, OwnerWord};
 use ea_model::Spot;
+use ea_word::{decode, decode_node, encode, encode_node};
 
 fn block(name: u32, carrier: u32, offset: u32) -> Node {
     Node::Block {

@@ -1,9 +1,9 @@
-//! Worked examples.
+//! Segments of one region that all schedulers take.
 ghost use Rattle.std.specs.Prelude.{◌≡◌, ◌≤◌, ◌*◌, IfOk, All, length, sum_by};
 ghost use Rattle.ea_segments.specs.Requests.{IsRequest};
 
-use crate::{Reply, Request, play};
 use ea_model::{List, OutOfMemory};
+use ea_segments::{Reply, Request, play};
 use std::alloc::Global;
 use std::sync::Wait;
 use std::test::Fail;
