@@ -1,13 +1,17 @@
-//! Tests of lists, of units and of words, of generated traces, and of what is printed of a run, with
-//! values that were worked out by hand.
+//! Tests of what is read and printed (flags, traces, texts of a run), of generated traces, and of the
+//! lists, units and words below all of it, with values that were worked out by hand.
 #![tactic(auto)]
 
+#[cfg(test)]
+mod flags;
 #[cfg(test)]
 mod generated;
 #[cfg(test)]
 mod lists;
 #[cfg(test)]
 mod report;
+#[cfg(test)]
+mod traces;
 #[cfg(test)]
 mod units;
 #[cfg(test)]

@@ -1,0 +1,12 @@
+pub mod Texts
+pub mod Moments
+pub mod Runs
+pub mod Courses
+pub mod Counts
+pub mod Entries
+pub mod Failures
+pub mod Paths
+pub mod WorkedCourses
+pub mod Decisions
+pub mod Flags
+pub mod Traces

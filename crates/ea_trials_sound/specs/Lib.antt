@@ -1,6 +1,0 @@
-pub mod Courses
-pub mod Counts
-pub mod Entries
-pub mod Failures
-pub mod Paths
-pub mod Runs
