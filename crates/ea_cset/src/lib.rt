@@ -6,8 +6,6 @@ pub mod keys;
 mod places;
 mod ranking;
 pub mod set;
-#[cfg(test)]
-mod tests;
 
 pub use keys::{CarrierFit, CarrierKey, Found, Order};
 pub use set::CarrierSet;

@@ -8,8 +8,6 @@ pub mod bins;
 pub mod fits;
 pub mod gaps;
 mod keys;
-#[cfg(test)]
-mod tests;
 
 pub use bins::Bins;
 pub use fits::Fit;

@@ -9,8 +9,6 @@ mod coding;
 mod index;
 pub mod parts;
 pub mod spare;
-#[cfg(test)]
-mod tests;
 mod units;
 
 pub use carrier::{Freed, Mbc, Placed, Resized};

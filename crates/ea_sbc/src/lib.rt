@@ -2,7 +2,5 @@
 #![tactic(auto)]
 
 mod carrier;
-#[cfg(test)]
-mod tests;
 
 pub use carrier::Sbc;

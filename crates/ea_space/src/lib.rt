@@ -3,8 +3,6 @@
 #![tactic(auto)]
 
 pub mod region;
-#[cfg(test)]
-mod tests;
 mod walks;
 
 pub use region::Region;

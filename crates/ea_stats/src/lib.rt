@@ -3,7 +3,5 @@
 #![tactic(auto)]
 
 mod statistics;
-#[cfg(test)]
-mod tests;
 
 pub use statistics::Stats;

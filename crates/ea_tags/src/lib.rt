@@ -5,8 +5,6 @@
 pub mod array;
 pub mod header;
 pub mod paged;
-#[cfg(test)]
-mod tests;
 
 pub use array::UnitArray;
 pub use header::Header;

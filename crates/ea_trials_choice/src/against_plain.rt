@@ -9,7 +9,7 @@ use ea_model::{
     BlockAt, Candidate, CarrierPlan, Gap, Kind, MAX_SEARCH_DEPTH, OutOfMemory, PAGE_UNITS, Place,
     Settings, Spot, Strategy,
 };
-use ea_trials_carrier::PlainCarrier;
+use ea_trials_carriers::PlainCarrier;
 use std::alloc::Global;
 use std::process::Abort;
 use std::test::Fail;

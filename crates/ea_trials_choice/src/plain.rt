@@ -11,7 +11,7 @@ ghost use Rattle.ea_model.specs.Strategies.{takes_first};
 ghost use Rattle.ea_model.specs.GoodFit.{ahead, bin_of, is_ahead, is_inspected, powers};
 
 use ea_model::{Candidate, Gap, Kind, List, OutOfMemory, PAGE_UNITS, Settings, Strategy};
-use ea_trials_carrier::PlainCarrier;
+use ea_trials_carriers::PlainCarrier;
 use std::alloc::Global;
 
 /// Why nothing was chosen.
