@@ -1,5 +1,5 @@
 //! What a run is given, and what it tells.
-ghost use Rattle.std.specs.Prelude.{◌≡◌, ◌≤◌, IfOk};
+ghost use Rattle.std.specs.Prelude.{◌≡◌, ◌^◌, ◌<◌, ◌≤◌, IfOk, length};
 
 use ea_io::{Sink, Source};
 use ea_model::{List, OutOfMemory};
@@ -56,10 +56,21 @@ impl From<OutOfMemory> for NotRun {
     }
 }
 
+/// What a run reads and writes.
+#[derive(Drop)]
+pub struct Streams {
+    /// Where the input comes from.
+    pub source: MemSource,
+    /// Where the output goes.
+    pub out: MemSink,
+    /// Where the error line goes.
+    pub err: MemSink,
+}
+
 /// A run that is over.
 #[derive(Drop)]
 pub struct Ran {
-    /// From 0 to 5.
+    /// Its status.
     pub status: u8,
     /// Where the output went.
     pub out: MemSink,
@@ -81,19 +92,29 @@ fn text(bytes: &[u8]) -> &str {
 }
 
 impl Case<'_> {
-    /// Runs the case.
+    /// Runs the case, as a trace.
     pub fn run<R: Threads + Sync>(&self, rt: &R, alloc: Global) -> Result<Ran, NotRun>
         ensures { IfOk result (λ ran. ran.status ≤ 5) }
     {
-        let mut source = MemSource::new(
+        let Streams {
+            mut source,
+            mut out,
+            mut err,
+        } = self.streams(alloc)?;
+        let status = run_words(rt, alloc, self.words, &mut source, &mut out, &mut err)?;
+        Ok(Ran { status, out, err })
+    }
+
+    /// What its run reads and writes, before it begins.
+    pub fn streams(&self, alloc: Global) -> Result<Streams, NotRun> {
+        let source = MemSource::new(
             list(alloc, self.input)?,
             self.piece.max(1),
             list(alloc, self.failing_reads)?,
         );
-        let mut out = self.sink(alloc, self.failing_writes)?;
-        let mut err = self.sink(alloc, self.failing_complaints)?;
-        let status = run_words(rt, alloc, self.words, &mut source, &mut out, &mut err)?;
-        Ok(Ran { status, out, err })
+        let out = self.sink(alloc, self.failing_writes)?;
+        let err = self.sink(alloc, self.failing_complaints)?;
+        Ok(Streams { source, out, err })
     }
 
     fn sink(&self, alloc: Global, failing: &[u32]) -> Result<MemSink, NotRun> {
@@ -114,13 +135,21 @@ pub fn run_words<R: Threads + Sync, S: Source, O: Sink, E: Sink>(
     ensures { IfOk result (λ status. status ≤ 5) }
 {
     let words = words_of(alloc, line)?;
-    if words.len() > MOST_WORDS {
-        return Err(NotRun::TooManyWords);
-    }
     Ok(run(rt, alloc, &words, source, out, err))
 }
 
-fn words_of(alloc: Global, line: &str) -> Result<Vec<String>, OutOfMemory> {
+/// The words of a line, spaces between them. `''` is the empty word.
+pub fn words_of(alloc: Global, line: &str) -> Result<Vec<String>, NotRun>
+    ensures { IfOk result (λ words. length words.items < 2 ^ 32) }
+{
+    let words = split(alloc, line)?;
+    if words.len() > MOST_WORDS {
+        return Err(NotRun::TooManyWords);
+    }
+    Ok(words)
+}
+
+fn split(alloc: Global, line: &str) -> Result<Vec<String>, OutOfMemory> {
     let mut words = Vec::new(alloc);
     for word in line.split_whitespace() {
         let word = if word == "''" { "" } else { word };

@@ -4,4 +4,4 @@
 
 pub mod case;
 
-pub use case::{Case, NotRun, PLAIN, Ran, run_words};
+pub use case::{Case, NotRun, PLAIN, Ran, Streams, run_words, words_of};

@@ -1,13 +1,13 @@
-//! Runs each case of a text through the top call, and prints what it gave. The cases are in the
-//! file stdin beside src/, and what they have to give is in stdout: rt ci compares it, and leaves
-//! what was printed in out/stdout. A case is added to both files by hand: what it has to give is
-//! worked out, and never taken from the program.
+//! Runs each case of a text through the call of its command, and prints what it gave. The cases are
+//! in the file stdin beside src/, and what they have to give is in stdout: rt ci compares it, and
+//! leaves what was printed in out/stdout. A case is added to both files by hand: what it has to give
+//! is worked out, and never taken from the program.
 //!
 //! Empty lines and lines that begin with # are skipped. The lines of a case are, in this order:
 //!
 //! - `case NAME`, where the name is what the case shows;
-//! - `words WORD ..`, the words of the command line; `''` is the empty word. Without this line
-//!   there are none;
+//! - `words WORD ..`, the words of the command line, of which the first may name a command; `''` is
+//!   the empty word. Without this line there are none;
 //! - `piece BYTES`, the most bytes of each read and each write; 16 without this line;
 //! - `input`, and the lines of the input after it; or `same input`, that of the case before it.
 //!   Without either the first read fails, which shows where nothing is read;
@@ -25,10 +25,12 @@
 //! be written; with 5 where there is no memory.
 #![tactic(auto)]
 
+mod commands;
 mod draft;
 mod fault;
 mod lines;
 
+use commands::run_case;
 use draft::Draft;
 use ea_io::{Sink, Source, StdSink, StdSource, put_number, put_text, read_all, write_all};
 use ea_model::List;
@@ -37,6 +39,7 @@ use fault::Fault;
 use lines::Line;
 use std::alloc::Global;
 use std::process::ExitCode;
+use std::sync::Wait;
 use std::thread::Threads;
 
 /// The most bytes of the cases.
@@ -53,7 +56,7 @@ fn main(rt: HostRuntime) -> ExitCode {
     ExitCode::from(status)
 }
 
-fn run_cases<R: Threads + Sync, S: Source, O: Sink>(
+fn run_cases<R: Threads + Wait + Sync, S: Source, O: Sink>(
     rt: &R,
     alloc: Global,
     source: &mut S,
@@ -65,7 +68,7 @@ fn run_cases<R: Threads + Sync, S: Source, O: Sink>(
     for (line, number) in text.lines().zip(1..) {
         match lines::read(line) {
             Some(Line::Run) => {
-                let ran = draft.case().run(rt, alloc)?;
+                let ran = run_case(rt, alloc, &draft.case())?;
                 print(alloc, out, draft.name(), &ran)?;
             }
             Some(line) => draft.take(line)?,
