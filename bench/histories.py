@@ -14,19 +14,23 @@ keeps all that its owner takes out of the queue with it. Where carriers migrate,
 is busy or empty.
 """
 import itertools
+import os
 import re
+import sys
 from dataclasses import dataclass, field
+from functools import partial
 
-NUMBERS = 1024
+sys.path.insert(0, os.path.join(os.path.dirname(os.path.realpath(__file__)), "..", "tools"))
+from texts import NUMBER as N, NUMBERS_OF_AN_INSTANCE as NUMBERS
+from texts import SMALLEST_BLOCK, carrier_in, need_of, numbers_in, total_in
+
 ENDINGS = ("free", "realloc")
 PLACINGS = ("alloc", "realloc")
 HEADER = 8
 PAGE = 512
 UNITS_OF_A_KB = 128
 KB_OF_A_PAGE = 4
-SMALLEST = 6
 MOST_SUBSETS = 2**12
-N = "(0|[1-9][0-9]*)"
 PLACE = f"{N} {N} {N}"
 FAIL = f"fail need {N} looked {N} (space|numbers)"
 MOST_LOOKED = 16
@@ -53,10 +57,6 @@ FORMS = {
 }
 FORMS = {word: {it: re.compile(form) for it, form in forms.items()} for word, forms in FORMS.items()}
 REPEATED = {"alloc": 2, "realloc": 3, "take": 2}
-STANDINGS = "employed|pooled|busy|returning"
-WORDS = f"owner {N} ({STANDINGS}) {N} base {N} pages {N} allocated {N} largest {N}"
-CARRIER = re.compile(f"carrier {N} (main|multi|single) {WORDS}")
-TOTAL = re.compile(f"total carriers {N} units {N} live {N} queued {N} free {N} header {N}")
 
 
 class Wrong(Exception):
@@ -66,15 +66,6 @@ class Wrong(Exception):
 def demand(fact, text):
     if not fact:
         raise Wrong(text)
-
-
-def even(number):
-    return number + number % 2
-
-
-def need_of(size):
-    """The units of a request for that many bytes."""
-    return max(SMALLEST, even(1 + -(-size // 8)))
 
 
 def pages_of(units):
@@ -172,42 +163,20 @@ class Block:
         return bool(self.room or other.room) or self.offset < other.end and other.offset < self.end
 
 
-@dataclass
-class Carrier:
-    """A carrier's line."""
-
-    number: int
-    kind: str
-    owner: int
-    standing: str
-    employer: int
-    base: int
-    pages: int
-    allocated: int
-    largest: int
-
-    @property
-    def units(self):
-        return self.pages * PAGE
-
-    def has(self, blocks):
-        """Whether its figures are those of these blocks."""
-        at, largest = HEADER, 0
-        for block in sorted(blocks, key=lambda it: it.offset):
-            if block.offset < at:
-                return False
-            at, largest = block.end, max(largest, block.offset - at)
-        figures = sum(it.size for it in blocks), max(largest, self.units - at)
-        return at <= self.units and figures == (self.allocated, self.largest)
+def has(carrier, blocks):
+    """Whether a carrier's figures are those of these blocks."""
+    at, largest = HEADER, 0
+    for block in sorted(blocks, key=lambda it: it.offset):
+        if block.offset < at:
+            return False
+        at, largest = block.end, max(largest, block.offset - at)
+    figures = sum(it.size for it in blocks), max(largest, carrier.units - at)
+    return at <= carrier.units and figures == (carrier.allocated, carrier.largest)
 
 
 def next_line(lines):
     demand(lines, "the output ends early")
     return lines.pop()
-
-
-def numbers_in(match):
-    return tuple(int(it) if it.isdigit() else it for it in match.groups())
 
 
 def entry_of(operation, lines):
@@ -253,13 +222,12 @@ def read(trace, text):
     carriers = []
     while len(lines) > 1:
         line = lines.pop()
-        match = CARRIER.fullmatch(line)
-        demand(match, f"'{line}' is no line of a carrier")
-        carriers.append(Carrier(*numbers_in(match)))
+        carriers.append(carrier_in(line))
+        demand(carriers[-1], f"'{line}' is no line of a carrier")
     line = next_line(lines)
-    match = TOTAL.fullmatch(line)
-    demand(match, f"'{line}' is no line of totals")
-    return sections, stopped, carriers, numbers_in(match)
+    total = total_in(line)
+    demand(total, f"'{line}' is no line of totals")
+    return sections, stopped, carriers, (*total.values(),)
 
 
 class Order:
@@ -389,7 +357,7 @@ class History:
             return True, (), 0
         if less < 0:
             return True, (need, need + 2, need + 4), 0
-        if less < SMALLEST:
+        if less < SMALLEST_BLOCK:
             return False, (old.size,), 0
         if 100 * less > self.values["rmbcmt"] * old.size:
             return True, (), 0
@@ -626,7 +594,7 @@ class History:
         room = carrier.units if carrier.kind == "single" else 0
         demand({it.room for it in sure} <= {room}, f"{text} is {carrier.kind}")
         maybe = [it for it in maybe if it.room == room]
-        alone, sizes = are_some(carrier.has, sure, maybe), self.untold_sizes(carrier, sure, maybe)
+        alone, sizes = are_some(partial(has, carrier), sure, maybe), self.untold_sizes(carrier, sure, maybe)
         demand(alone or sizes, f"{text} has other blocks")
         if carrier.employer - 1 in self.halts:
             self.halts[carrier.employer - 1].fits.append((alone, sizes))
@@ -644,7 +612,9 @@ class History:
             return set()
         places = {HEADER, *(it.end for it in (*sure, *maybe))}
         sizes = [halt.need] if is_single else [halt.need, halt.need + 2, halt.need + 4]
-        fits = lambda at, size: are_some(carrier.has, [*sure, Block(carrier.number, at, size, 0, None)], maybe)
+        fits = lambda at, size: are_some(
+            partial(has, carrier), [*sure, Block(carrier.number, at, size, 0, None)], maybe
+        )
         return {size for size in sizes if any(fits(at, size) for at in places)}
 
     def check_employer(self, carrier, me, text):

@@ -5,6 +5,7 @@ from dataclasses import dataclass
 from node_file import read_lines
 from recording import read_recording
 from refused import demand
+from texts import carrier_in
 
 UNIT = 8
 PAGE = 4096
@@ -22,12 +23,6 @@ class Filled:
     allocated: int
     pooled: bool
     largest: int
-
-
-CARRIER_LINE = re.compile(
-    r"carrier [0-9]+ (multi|single|main) owner [0-9]+ (employed|pooled|busy|returning) [0-9]+ base [0-9]+"
-    r" pages ([0-9]{1,9}) allocated ([0-9]{1,12}) largest ([0-9]{1,12})"
-)
 
 
 def filled_of_node(node):
@@ -65,12 +60,11 @@ def carriers_of_run(path, letter, types):
     found = []
     for at, line in part_of(path, lines, letter, types):
         if line.startswith("carrier "):
-            match = CARRIER_LINE.fullmatch(line)
-            demand(match, f"{path}: line {at}: it is no line of a carrier")
-            pages, allocated, largest = map(int, match.groups()[2:])
-            is_pooled = match[2] in ("pooled", "busy")
-            filled = Filled(pages * PAGE, allocated * UNIT, is_pooled, largest * UNIT)
-            found.append((filled, "single" if match[1] == "single" else "multi"))
+            it = carrier_in(line)
+            demand(it, f"{path}: line {at}: it is no line of a carrier")
+            is_pooled = it.standing in ("pooled", "busy")
+            filled = Filled(it.pages * PAGE, it.allocated * UNIT, is_pooled, it.largest * UNIT)
+            found.append((filled, "single" if it.kind == "single" else "multi"))
     return found
 
 

@@ -5,8 +5,8 @@ import random
 from collections import defaultdict
 from dataclasses import dataclass, field
 
-from picture_text import owner_of
 from refused import Refused
+from texts import owner_of
 
 MOST_ATTEMPTS, MOST_STEPS = 100, 1_500_000
 

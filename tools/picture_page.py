@@ -4,7 +4,7 @@ import json
 import os
 
 from picture_svg import COLOURS
-from picture_text import NUMBERS
+from texts import NUMBERS_OF_AN_INSTANCE
 
 STANDINGS = ("employed", "used", "pooled", "busy", "returning")
 NEVER = -1
@@ -58,7 +58,7 @@ def page_data(run):
         },
         "lives": [life_data(it) for it in run.replay.lives],
         "colours": COLOURS[: len(run.trace.sections)],
-        "numbers": NUMBERS,
+        "numbers": NUMBERS_OF_AN_INSTANCE,
         "stops": [[it.moment, it.scheduler, words] for it, words in run.kept()],
         "kept": [at for at, it in enumerate(blocks) if it.is_kept],
         "notes": run.notes(),

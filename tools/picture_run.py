@@ -7,10 +7,9 @@ from collections import defaultdict
 from dataclasses import dataclass
 
 from picture_order import Order, Replay, hints, recorded_order
-from picture_text import (
-    Settings, begun_at, is_stop, live_of, read_carrier, read_entry, read_log, read_text
-)
+from picture_text import Settings, begun_at, is_stop, live_of, read_entry, read_log, read_text
 from refused import Refused
+from texts import read_carrier
 
 MOST_SUBSETS = 2**12
 WITHOUT_ORDER = (
@@ -261,10 +260,10 @@ class Run:
             raise Refused(f"{self.name}: carrier {line.number} is {line.kind}, and its blocks are of a {life.kind} one")
         span.base, span.pages = line.base, line.pages
         if not self.is_exact:
-            life.tell(moment, line.standing, line.instance)
+            life.tell(moment, line.standing, line.employer)
             return
         at = bisect.bisect_right(life.told, moment, key=lambda it: it[0]) - 1
-        life.told[at] = life.told[at][0], line.standing, line.instance
+        life.told[at] = life.told[at][0], line.standing, line.employer
 
     def check_total(self):
         """Compares the last moment with the totals."""

@@ -5,13 +5,11 @@ from dataclasses import dataclass, replace
 from expected import explained
 from program import COMMANDS, NOT_BUILT, OF_RECORDED, OF_REGION, OF_SEVERAL, command_of, reason_of, run, told_of
 from refused import Refused
+from texts import need_of, read_carrier, read_total
 
 MOST_STEPS_OF_A_STOP = 100_000_000
-NUMBERS = 1024
 PAGES_OF_A_MB = 256
 UNITS_OF_A_KB = 128
-SMALLEST = 6
-BYTES_OF_A_UNIT = 8
 
 
 # What the program reads and writes
@@ -78,19 +76,6 @@ class Trace:
 
 
 @dataclass
-class CarrierLine:
-    number: int
-    kind: str
-    owner: int
-    standing: str
-    instance: int
-    base: int
-    pages: int
-    allocated: int
-    largest: int
-
-
-@dataclass
 class Text:
     """The lines of each log, both lines of an info as one, the carriers at the end and the totals."""
 
@@ -134,11 +119,6 @@ class Entry:
     def stays(self):
         """Whether a block stays where it is under another name."""
         return self.ended is not None and self.ended[1] == "here"
-
-
-def owner_of(number):
-    """The instance that creates the carriers of this number."""
-    return (number - 1) // NUMBERS + 1
 
 
 def read_file(path):
@@ -224,11 +204,6 @@ def part_of(text, trace):
     return re.split("^type ", text.partition(f"type {trace.letter}\n")[2], maxsplit=1, flags=re.MULTILINE)[0]
 
 
-def read_carrier(line):
-    words = line.split(" ")
-    return CarrierLine(int(words[1]), words[2], int(words[4]), words[5], *map(int, [words[6], *words[8::2]]))
-
-
 def is_stop(line):
     return line.startswith("stopped ")
 
@@ -251,15 +226,7 @@ def read_text(text, sections):
             log.append(lines[at])
             at += 1
         logs.append(log)
-    words = lines[-2].split(" ")
-    total = dict(zip(words[1::2], map(int, words[2::2])))
-    return Text(logs, [read_carrier(it) for it in lines[at:-2]], total)
-
-
-def need_of(size):
-    """The units of a request for that many bytes."""
-    units = 1 + -(-size // BYTES_OF_A_UNIT)
-    return max(SMALLEST, units + units % 2)
+    return Text(logs, [read_carrier(it) for it in lines[at:-2]], read_total(lines[-2]))
 
 
 def read_entry(scheduler, operation, line, threshold):

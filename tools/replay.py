@@ -3,7 +3,7 @@ from collections import Counter
 from dataclasses import dataclass
 
 from program import run
-from texts import allocated_in, can_migrate, carrier_of, figure, is_placed, owner_of, read_text, units_of
+from texts import can_migrate, carrier_of, figure, is_placed, owner_of, read_text
 
 MOST_OPERATIONS = 2**20
 LARGEST_INPUT = 2**24
@@ -15,7 +15,7 @@ POOLED, RETURNING = 0, -1
 
 def user_in(carrier):
     """Who uses a carrier by its line."""
-    return {"pooled": POOLED, "busy": POOLED, "returning": RETURNING}.get(carrier[5], int(carrier[6]))
+    return {"pooled": POOLED, "busy": POOLED, "returning": RETURNING}.get(carrier.standing, carrier.employer)
 
 
 @dataclass
@@ -41,9 +41,9 @@ class Replay:
         # What each instance uses: how many carriers, and their units.
         self.used, self.used_units = Counter(), Counter()
         for it in text.carriers:
-            if it[2] == "main":
-                self.add(int(it[1]), Carrier(int(it[4]), is_main=True))
-                self.resize(self.carriers[int(it[1])], units_of(it))
+            if it.kind == "main":
+                self.add(it.number, Carrier(it.owner, is_main=True))
+                self.resize(self.carriers[it.number], it.units)
         self.begin()
         self.observe()
 
@@ -159,16 +159,16 @@ class Replay:
         """The blocks of these names were to be freed when their schedulers were stopped. Where one was released, the
         line of its carrier is without it."""
         for line in text.carriers:
-            held = {name: size for name, (number, size) in self.spots.items() if number == int(line[1])}
+            held = {name: size for name, (number, size) in self.spots.items() if number == line.number}
             for name in held.keys() & names:
-                if allocated_in(line) == sum(held.values()) - held[name]:
-                    self.counts["returned"] += line[5] == "returning"
-                    self.hand(self.carriers[int(line[1])], user_in(line))
+                if line.allocated == sum(held.values()) - held[name]:
+                    self.counts["returned"] += line.standing == "returning"
+                    self.hand(self.carriers[line.number], user_in(line))
                     self.block_units -= self.spots.pop(name)[1]
 
     def agrees(self, text):
         """Whether it ends with the carriers and totals that the text has."""
-        there = {int(it[1]): (user_in(it), units_of(it)) for it in text.carriers}
+        there = {it.number: (user_in(it), it.units) for it in text.carriers}
         mine = {number: (it.user, it.units) for number, it in self.carriers.items()}
         return mine == there and self.block_units == text.total["live"] + text.total["queued"]
 

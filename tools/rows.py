@@ -9,12 +9,10 @@ from columns import DECIMALS
 from program import OF_RECORDED, Ended, command_of, is_said, reason_of, run, told_of
 from replay import UNITS_EVER, replay
 from texts import (
-    NUMBERS_OF_AN_INSTANCE, allocated_in, can_migrate, carrier_of, is_placed, owner_of, read_texts, read_traces,
-    units_of,
+    BYTES_OF_A_UNIT, NUMBERS_OF_AN_INSTANCE, can_migrate, carrier_of, is_placed, owner_of, read_texts, read_traces,
 )
 
 UNITS_OF_A_MB = 2**17
-BYTES_OF_A_UNIT = 8
 MARK = b"# mark "
 WHOLE = "end"
 
@@ -51,13 +49,13 @@ def count_blocks(text):
 
 def of_blocks(text):
     """The columns on the blocks at the end, and on the gaps between them."""
-    count, singles = count_blocks(text), [it for it in text.carriers if it[2] == "single"]
-    gaps = [int(it[it.index("largest") + 1]) for it in text.carriers if it[2] != "single"]
+    count, singles = count_blocks(text), [it for it in text.carriers if it.kind == "single"]
+    gaps = [it.largest for it in text.carriers if it.kind != "single"]
     return {
         "blocks_end": count,
         "block_bytes": text.total["live"] * BYTES_OF_A_UNIT // count if count else None,
-        "blocks_single": sum(allocated_in(it) > 0 for it in singles),
-        "mb_single": megabytes(sum(map(units_of, singles))),
+        "blocks_single": sum(it.allocated > 0 for it in singles),
+        "mb_single": megabytes(sum(it.units for it in singles)),
         "gap_kb": max(gaps, default=0) * BYTES_OF_A_UNIT // 1024,
     }
 
@@ -66,8 +64,8 @@ def utilisation_each(text):
     """Of the carriers that each instance uses."""
     parts = []
     for me in range(1, len(text.logs) + 1):
-        used = [it for it in text.carriers if it[5] == "employed" and int(it[6]) == me]
-        part = percent(sum(map(allocated_in, used)), sum(map(units_of, used)))
+        used = [it for it in text.carriers if it.standing == "employed" and it.employer == me]
+        part = percent(sum(it.allocated for it in used), sum(it.units for it in used))
         parts.append("-" if part is None else str(part))
     return "/".join(parts)
 
@@ -110,7 +108,7 @@ def replayed(found):
 def most_carriers(text):
     """The sum over the owners of how many carriers each had at most, by their greatest numbers."""
     numbers = {carrier_of(it) for it in itertools.chain(*text.logs) if is_placed(it)}
-    numbers.update(int(it[1]) for it in text.carriers)
+    numbers.update(it.number for it in text.carriers)
     most = Counter()
     for number in numbers:
         most[owner_of(number)] = max(most[owner_of(number)], (number - 1) % NUMBERS_OF_AN_INSTANCE + 1)
@@ -127,7 +125,7 @@ def most_units(trace, text):
             return None
         last = next((it for it in reversed(log) if it[0] == "info" or is_placed(it)), None)
         if last is None:
-            parts.append(sum(units_of(it) for it in text.carriers if it[2] == "main" and int(it[4]) == me))
+            parts.append(sum(it.units for it in text.carriers if it.kind == "main" and it.owner == me))
         elif last[0] != "info":
             return None
         else:
@@ -141,7 +139,7 @@ def shown(text):
     fetched = set()
     for me, log in enumerate(text.logs, 1):
         fetched.update((me, it) for it in map(carrier_of, filter(is_placed, log)) if owner_of(it) != me)
-    states = Counter(it[5] for it in text.carriers)
+    states = Counter(it.standing for it in text.carriers)
     numbers = {
         "abandoned": len(fetched) + states["pooled"] + states["busy"],
         "fetched": len(fetched),

@@ -1,11 +1,87 @@
-"""Traces that the program took, and texts that it wrote, for tools/compare."""
+"""Traces that the program took, and texts that it wrote, for tools/compare; lines of texts, for other tools, too."""
 import re
 from dataclasses import dataclass, field, replace
 
 from program import OF_RECORDED, command_of, is_said
 
+BYTES_OF_A_UNIT = 8
 UNITS_OF_A_PAGE = 512
 NUMBERS_OF_AN_INSTANCE = 1024
+SMALLEST_BLOCK = 6
+NUMBER = "(0|[1-9][0-9]{0,11})"
+CARRIER = re.compile(
+    f"carrier {NUMBER} (main|multi|single) owner {NUMBER} (employed|pooled|busy|returning) {NUMBER}"
+    f" base {NUMBER} pages {NUMBER} allocated {NUMBER} largest {NUMBER}"
+)
+TOTALS = ("carriers", "units", "live", "queued", "free", "header")
+TOTAL = re.compile("total " + " ".join(f"{it} {NUMBER}" for it in TOTALS))
+
+
+# Lines of a text
+
+
+@dataclass
+class Carrier:
+    """What a carrier's line says. The employer is who uses it, or put it into the pool, or to whom it returns."""
+
+    number: int
+    kind: str
+    owner: int
+    standing: str
+    employer: int
+    base: int
+    pages: int
+    allocated: int
+    largest: int
+
+    @property
+    def units(self):
+        return self.pages * UNITS_OF_A_PAGE
+
+
+def numbers_in(match):
+    """The parts of a match, those as numbers that are some."""
+    return tuple(int(it) if it.isdigit() else it for it in match.groups())
+
+
+def carrier_in(line):
+    """What a line says, or None where it is no line of a carrier."""
+    match = CARRIER.fullmatch(line)
+    return match and Carrier(*numbers_in(match))
+
+
+def total_in(line):
+    """The figures of a line, or None where it is no line of totals."""
+    match = TOTAL.fullmatch(line)
+    return match and dict(zip(TOTALS, numbers_in(match)))
+
+
+def read_carrier(line):
+    found = carrier_in(line)
+    if not found:
+        raise ValueError(f"'{line}' is no line of a carrier")
+    return found
+
+
+def read_total(line):
+    found = total_in(line)
+    if not found:
+        raise ValueError(f"'{line}' is no line of totals")
+    return found
+
+
+def owner_of(number):
+    """The instance that creates the carriers of this number."""
+    return (number - 1) // NUMBERS_OF_AN_INSTANCE + 1
+
+
+def need_of(size):
+    """The units of a request for that many bytes."""
+    units = 1 + -(-size // BYTES_OF_A_UNIT)
+    return max(SMALLEST_BLOCK, units + units % 2)
+
+
+# Traces and texts
 
 
 @dataclass
@@ -33,7 +109,7 @@ class Text:
     logs: list = field(default_factory=list)
     # The schedulers that are stopped.
     stopped: list = field(default_factory=list)
-    # The words of each line of a carrier and of the totals.
+    # What each line of a carrier says, and the figures of the totals.
     carriers: list = field(default_factory=list)
     total: dict = field(default_factory=dict)
     # What was generated: the failed allocations.
@@ -99,9 +175,9 @@ def read_text(text):
         elif words[0] == "stopped":
             made.stopped.append(len(made.logs))
         elif words[0] == "carrier":
-            made.carriers.append(words)
+            made.carriers.append(read_carrier(line))
         elif words[0] == "total":
-            made.total = {name: int(number) for name, number in zip(words[1::2], words[2::2])}
+            made.total = read_total(line)
         elif words[:2] == ["info", "sbcs"]:
             made.logs[-1][-1] += words
         elif words[0]:
@@ -114,18 +190,6 @@ def read_text(text):
 def figure(entry, at):
     """A figure of an `info`, over multiblock and singleblock carriers."""
     return int(entry[at]) + int(entry[len(entry) // 2 + at])
-
-
-def units_of(carrier):
-    return int(carrier[carrier.index("pages") + 1]) * UNITS_OF_A_PAGE
-
-
-def allocated_in(carrier):
-    return int(carrier[carrier.index("allocated") + 1])
-
-
-def owner_of(number):
-    return (number - 1) // NUMBERS_OF_AN_INSTANCE + 1
 
 
 def is_placed(entry):
