@@ -85,24 +85,16 @@ pub fn kind_at(word: &[u8]) -> Option<OpKind>
 pub fn letter_at(word: &[u8]) -> Option<Letter>
     ensures { result ≡ letter_in word.now }
 {
-    if word == b"B".as_slice() {
-        Some(Letter::B)
-    } else if word == b"D".as_slice() {
-        Some(Letter::D)
-    } else if word == b"E".as_slice() {
-        Some(Letter::E)
-    } else if word == b"H".as_slice() {
-        Some(Letter::H)
-    } else if word == b"L".as_slice() {
-        Some(Letter::L)
-    } else if word == b"R".as_slice() {
-        Some(Letter::R)
-    } else if word == b"S".as_slice() {
-        Some(Letter::S)
-    } else if word == b"T".as_slice() {
-        Some(Letter::T)
-    } else {
-        None
+    match word {
+        b"B" => Some(Letter::B),
+        b"D" => Some(Letter::D),
+        b"E" => Some(Letter::E),
+        b"H" => Some(Letter::H),
+        b"L" => Some(Letter::L),
+        b"R" => Some(Letter::R),
+        b"S" => Some(Letter::S),
+        b"T" => Some(Letter::T),
+        _ => None,
     }
 }
 

@@ -13,10 +13,11 @@ use crate::keywords::{Keyword, OpKind, is_comment, keyword_at, kind_at, letter_a
 use crate::words::{bare, bytes, count, name, one_word, scheduler, three_words, two_words};
 use ea_model::words::{first_word, number};
 use ea_model::{Letter, MAX_SEED, MAX_STEPS, MAX_TRIES, Op, Stop};
+use std::alloc::AllocError;
 
 /// What one line says. `T` holds the turns of a line of turns: in definitions their list, in code
 /// the text of the line, which may turn out to be malformed when its turns are read.
-#[derive(Clone, Copy)]
+#[derive(Copy)]
 pub enum Line<T> {
     /// A line without words, or a comment.
     Skipped,
@@ -40,6 +41,12 @@ pub enum Line<T> {
     End,
     /// No line of the language.
     Unreadable,
+}
+
+impl<T: Copy> Clone for Line<T> {
+    fn clone(&self) -> Result<Self, AllocError> {
+        Ok(*self)
+    }
 }
 
 /// A greater number of a scheduler or of operations is read as this one: no scheduler has it, and
