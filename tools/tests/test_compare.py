@@ -423,11 +423,13 @@ class Compare(unittest.TestCase):
         checked = 0
         for trace in sorted(it for it in os.listdir(EXAMPLES) if it.endswith(".trace")):
             name = trace.removesuffix(".trace")
-            lists = [it for it in os.listdir(EXAMPLES) if it.partition(".")[0] == name and it.endswith(".flags")]
+            files = [it for it in os.listdir(EXAMPLES) if it.partition(".")[0] == name]
+            lists = [it for it in files if it.endswith(".flags")]
             with open(f"{EXAMPLES}/{trace}", encoding="utf-8") as source:
                 text = source.read()
             of_others = "\nsuper\n" in f"\n{text}" or "\nread " in text
-            if not lists or text.count("\nscheduler ") != 1 or of_others:
+            ends_otherwise = any(it.endswith(".status") for it in files)
+            if not lists or text.count("\nscheduler ") != 1 or of_others or ends_otherwise:
                 continue
             for row in self.rows(trace, "--flags", *lists, folder=EXAMPLES):
                 for column in ("carriers_most", "units_most", "abandoned", "fetched", "returned"):
