@@ -1,8 +1,10 @@
 //! The flag language on worked words: what its definition gives for them, computed from it alone.
 //! All that is expected was worked out by hand from the description of the flags in docs/FORMATS.md.
 
-ghost use Rattle.std.specs.Prelude.{◌≡◌, codes, true, []};
+ghost use Rattle.std.specs.Prelude.{◌≡◌, ◌*◌, codes, true, []};
 ghost use Rattle.ea_model.specs.declared.settings.Strategy.TheVariants.{Bf, Aoff, Gf};
+ghost use Rattle.ea_model.specs.declared.units.TheConstants.{MAX_MEGABYTES, MAX_PAGES, MAX_UNITS};
+ghost use Rattle.ea_model.specs.declared.units.TheConstants.{MEGABYTE_PAGES, PAGE_UNITS};
 ghost use Rattle.ea_model.specs.Words.{words};
 ghost use Rattle.ea_flags.specs.Flags.{flags};
 ghost use Rattle.ea_trials_definitions.specs.Flags.{usual, plain, strategy_is, limit_is, both_are};
@@ -151,4 +153,10 @@ pub fn main_carriers()
         ≡ given (record (with_h (record usual { mmbcs = 131072 })) { scs = 1 }) }
     ensures refused_word_first { flags (words (codes "+MMscs 1 +MHmmbcs 1025 +MHas foo"))
         ≡ bad_value 6 }
+{}
+
+/// The largest super carrier.
+pub fn largest_super_carrier()
+    ensures pages { MAX_PAGES ≡ MAX_MEGABYTES * MEGABYTE_PAGES }
+    ensures units { MAX_UNITS ≡ MAX_PAGES * PAGE_UNITS }
 {}

@@ -13,9 +13,6 @@ const ROOM: usize = 1 << 16;
 /// The most words of a run.
 const MOST_WORDS: usize = 16;
 
-/// The requests that an input may have.
-const MOST: u32 = 1_048_576;
-
 /// What a run tells: its status, its text and the line of its fault.
 #[derive(Drop)]
 struct Told {
@@ -86,13 +83,31 @@ fn one_of_two_schedulers_gets_the_whole_region(rt: HostRuntime) -> Result<(), Fa
 
 #[test]
 fn one_request_too_many_is_refused(rt: HostRuntime) -> Result<(), Fail> {
-    let alloc = rt.alloc();
-    let mut bytes = Vec::from_slice(alloc, b"super\nscheduler 1\ntake 1 1\n")?;
-    for _ in 0..MOST {
-        bytes.extend_from_slice(b"back 1\n")?;
+    // A name that is taken again or not held is told only up to the last request.
+    let cases: [(usize, &[u8], &str); 3] = [
+        (
+            1_048_575,
+            b"back 2\n",
+            "erts_alloc_run: line 1048579: too many\n",
+        ),
+        (
+            1_048_575,
+            b"take 1 1\n",
+            "erts_alloc_run: line 1048579: too many\n",
+        ),
+        (
+            1_048_574,
+            b"take 1 1\n",
+            "erts_alloc_run: line 1048578: name reused\n",
+        ),
+    ];
+    for (backs, last, line) in cases {
+        let mut bytes = Vec::from_slice(rt.alloc(), b"super\nscheduler 1\ntake 1 1\n")?;
+        let all = b"back 1\n".repeat(rt.alloc(), backs)?;
+        bytes.extend_from_slice(&all)?;
+        bytes.extend_from_slice(last)?;
+        let run = run_command(&rt, rt.alloc(), "", bytes)?;
+        assert_eq!(rt; run.texts(), (2, "", line), "after {backs} backs");
     }
-    let run = run_command(&rt, alloc, "", bytes)?;
-    let line = "erts_alloc_run: line 1048579: too many\n";
-    assert_eq!(rt; run.texts(), (2, "", line));
     Ok(())
 }
