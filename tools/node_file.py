@@ -2,6 +2,7 @@
 import re
 from dataclasses import dataclass, field
 
+from files import read_file
 from refused import Refused, demand
 
 FIRST_LINE = "node-load 1"
@@ -121,11 +122,7 @@ READERS = {
 
 
 def read_lines(path):
-    try:
-        with open(path, "rb") as file:
-            return file.read().decode("utf-8", "replace").split("\n")
-    except OSError as error:
-        raise Refused(f"{path}: {error.strerror}") from None
+    return read_file(path).decode("utf-8", "replace").split("\n")
 
 
 def read_node(path):

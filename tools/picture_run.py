@@ -7,9 +7,9 @@ from collections import defaultdict
 from dataclasses import dataclass
 
 from picture_order import Order, Replay, hints, recorded_order
-from picture_text import Settings, begun_at, is_stop, live_of, read_entry, read_log, read_text
+from picture_text import begun_at, is_stop, live_of, read_entry, read_log, read_text
 from refused import Refused
-from texts import read_carrier
+from texts import Settings, read_carrier
 
 MOST_SUBSETS = 2**12
 WITHOUT_ORDER = (
@@ -114,7 +114,7 @@ class Run:
 
     @property
     def migrates(self):
-        return self.settings.limit > 0
+        return self.settings.migrates
 
     @property
     def last(self):

@@ -3,13 +3,12 @@ import re
 from dataclasses import dataclass, replace
 
 from expected import explained
-from program import COMMANDS, NOT_BUILT, OF_RECORDED, OF_REGION, OF_SEVERAL, command_of, reason_of, run, told_of
+from files import read_file, reason_of
+from program import COMMANDS, NOT_BUILT, OF_RECORDED, OF_REGION, OF_SEVERAL, command_of, run, told_of
 from refused import Refused
 from texts import need_of, read_carrier, read_total
 
 MOST_STEPS_OF_A_STOP = 100_000_000
-PAGES_OF_A_MB = 256
-UNITS_OF_A_KB = 128
 
 
 # What the program reads and writes
@@ -119,14 +118,6 @@ class Entry:
     def stays(self):
         """Whether a block stays where it is under another name."""
         return self.ended is not None and self.ended[1] == "here"
-
-
-def read_file(path):
-    try:
-        with open(path, "rb") as file:
-            return file.read()
-    except OSError as error:
-        raise Refused(f"{path}: {reason_of(error)}") from error
 
 
 def read_flags(path):
@@ -281,37 +272,6 @@ def live_of(logs):
     """The units of the blocks that are held at the end of these entries."""
     sizes = {it.placed[0]: it.placed[3] for log in logs for it in log if it.placed}
     return sum(sizes.values()) - sum(sizes[it.ended[0]] for log in logs for it in log if it.ended)
-
-
-@dataclass
-class Settings:
-    """What the words of accepted flags set, for the trace's letter."""
-
-    schedulers: int = 1
-    megabytes: int = 64
-    threshold: int = 512 * UNITS_OF_A_KB
-    limit: int = 60
-
-    @staticmethod
-    def of(words, letter):
-        found = Settings()
-        for flag, value in zip(words[::2], words[1::2]):
-            name = flag[3:] if flag[2:3] in (letter, "u") else ""
-            if flag == "+S":
-                found.schedulers = int(value)
-            elif flag == "+MMscs":
-                found.megabytes = int(value)
-            elif name == "sbct":
-                found.threshold = int(value) * UNITS_OF_A_KB
-            elif name == "acul":
-                found.limit = 60 if value == "de" else int(value)
-        found.limit = 0 if letter == "T" else found.limit
-        return found
-
-    @property
-    def region(self):
-        """The pages of each region."""
-        return self.megabytes * PAGES_OF_A_MB // self.schedulers
 
 
 # The program

@@ -7,6 +7,7 @@ import subprocess
 import tempfile
 import threading
 
+from files import reason_of
 from refused import Refused
 
 TOP = os.path.dirname(os.path.dirname(os.path.realpath(__file__)))
@@ -18,10 +19,6 @@ SMALLEST_TRACE = b"type H\nscheduler 1\nschedule\nend\n"
 OF_SEVERAL, OF_REGION, OF_RECORDED, OF_HISTOGRAMS = "types", "super", "recorded", "histogram"
 OF_CONTENTS = "contents"
 COMMANDS = (OF_SEVERAL, OF_REGION, OF_RECORDED, OF_HISTOGRAMS, OF_CONTENTS)
-
-
-def reason_of(error):
-    return error.strerror or str(error)
 
 
 # Inputs

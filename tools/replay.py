@@ -3,7 +3,7 @@ from collections import Counter
 from dataclasses import dataclass
 
 from program import run
-from texts import can_migrate, carrier_of, figure, is_placed, owner_of, read_text
+from texts import Settings, carrier_of, figure, is_placed, owner_of, read_text
 
 MOST_OPERATIONS = 2**20
 LARGEST_INPUT = 2**24
@@ -196,7 +196,7 @@ def stopped_frees(trace, text):
 
 def replay(program, words, trace, text, seconds):
     """The replay of a run whose order is known, or None where it does not lead to the end that the text tells."""
-    migrates = can_migrate(trace.letter, words)
+    migrates = Settings.of(words, trace.letter).migrates
     found = Replay(text, migrates)
     missing = found.follow(text.logs)
     if any(missing):

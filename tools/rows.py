@@ -6,10 +6,11 @@ import time
 from collections import Counter
 
 from columns import DECIMALS
-from program import OF_RECORDED, Ended, command_of, is_said, reason_of, run, told_of
+from files import reason_of
+from program import OF_RECORDED, Ended, command_of, is_said, run, told_of
 from replay import UNITS_EVER, replay
 from texts import (
-    BYTES_OF_A_UNIT, NUMBERS_OF_AN_INSTANCE, can_migrate, carrier_of, is_placed, owner_of, read_texts, read_traces,
+    BYTES_OF_A_UNIT, NUMBERS_OF_AN_INSTANCE, Settings, carrier_of, is_placed, owner_of, read_texts, read_traces,
 )
 
 UNITS_OF_A_MB = 2**17
@@ -216,7 +217,8 @@ def columns_of(program, words, trace, text, seconds):
     """The columns of a trace that was run, or of one type of several."""
     trace.sections += [[] for _ in text.logs[len(trace.sections) :] if trace.sections]
     found = replay(program, words, trace, text, seconds) if trace.has_one_order() else None
-    of_time = replayed(found) if found else bounded(trace, text, can_migrate(trace.letter, words))
+    migrates = Settings.of(words, trace.letter).migrates
+    of_time = replayed(found) if found else bounded(trace, text, migrates)
     return {"type": trace.letter, **counted(trace, text), **of_time, "mb_most": megabytes(of_time.get("units_most"))}
 
 

@@ -7,25 +7,22 @@ import subprocess
 import sys
 from dataclasses import dataclass
 
-from program import OF_REGION, TOP, reason_of, told_of
-from refused import Refused, demand
+from files import read_file, write_file
+from program import OF_REGION, TOP, told_of
+from refused import demand
 
 EXAMPLES = "examples"
 PROGRAM = "crates/erts_alloc_run"
 CASES = "crates/ea_trials_cases"
 # As often as examples/check does it where each run may give another text.
 RUNS_OF_THREADS = 20
-# How long a scheduler's turn may be where the order of threads is chosen here; the last is to its end.
+# How many steps a scheduler may take in a row where the order of threads is chosen here.
 TURNS = (1, 1, 2, 3, 4, 5, 6, 2000)
 MOST_TURNS = 24
 
 
 def read_bytes(path):
-    try:
-        with open(f"{TOP}/{path}", "rb") as file:
-            return file.read()
-    except OSError as error:
-        raise Refused(f"{path}: {reason_of(error)}") from error
+    return read_file(f"{TOP}/{path}")
 
 
 def output_of(words, data, **how):
@@ -71,11 +68,7 @@ class Texts:
         """Writes each file of which a part is renewed."""
         for path in sorted({path for path, _ in renewed}):
             parts = (renewed.get((path, at), part) for at, part in enumerate(self.parts[path]))
-            try:
-                with open(f"{TOP}/{path}", "wb") as file:
-                    file.write(b"".join(parts))
-            except OSError as error:
-                raise Refused(f"{path}: {reason_of(error)}") from error
+            write_file(f"{TOP}/{path}", b"".join(parts))
 
 
 @dataclass

@@ -8,7 +8,7 @@ import sys
 import tempfile
 
 from columns import DECIMALS, OF_WORDS
-from program import reason_of
+from files import reason_of
 from refused import Refused
 
 

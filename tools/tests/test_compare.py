@@ -17,6 +17,9 @@ import tempfile
 import time
 import unittest
 
+sys.dont_write_bytecode = True
+from counted import run_tests
+
 TOP = os.path.dirname(os.path.dirname(os.path.dirname(os.path.realpath(__file__))))
 TOOL = f"{TOP}/tools/compare"
 EXAMPLES = f"{TOP}/examples"
@@ -645,14 +648,7 @@ class Compare(unittest.TestCase):
         self.assertIn("utilisation_most", names)
 
 
-def main():
+if __name__ == "__main__":
     if len(sys.argv) > 1:
         PROGRAM.extend(["--program", os.path.abspath(sys.argv.pop(1))])
-    result = unittest.TextTestRunner(stream=sys.stdout).run(unittest.defaultTestLoader.loadTestsFromTestCase(Compare))
-    failed = len(result.failures) + len(result.errors)
-    print(f"{result.testsRun - failed - len(result.skipped)} passed, {failed} failed")
-    return 1 if failed else 0
-
-
-if __name__ == "__main__":
-    sys.exit(main())
+    sys.exit(run_tests())

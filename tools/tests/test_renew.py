@@ -13,6 +13,9 @@ import sys
 import tempfile
 import unittest
 
+sys.dont_write_bytecode = True
+from counted import run_tests
+
 TOP = os.path.dirname(os.path.dirname(os.path.dirname(os.path.realpath(__file__))))
 PROGRAM = [f"{TOP}/run"]
 CARRIER = "carrier 1 multi owner 1 employed 1 base 0 pages 64 allocated 14 largest 32746"
@@ -269,7 +272,7 @@ class Renew(unittest.TestCase):
         self.write("program", self.read(path).replace("NUMBER/'", "'$$/"))
         status, text, _ = self.renew("--taking-out", " colour [0-9]+$", "examples/threads")
         self.assertEqual((status, text.splitlines()[-1]), (1, "0 passed, 1 failed"))
-        self.assertTrue(text.startswith("examples/threads-race: two texts of one\n"), text)
+        self.assertTrue(text.startswith("examples/threads-race: two new texts of one\n"), text)
         self.assertEqual(self.changed(), set())
 
     def test_wrong_words(self):
@@ -280,14 +283,7 @@ class Renew(unittest.TestCase):
             self.assertIn("renew: error: ", said)
 
 
-def main():
+if __name__ == "__main__":
     if len(sys.argv) > 1:
         PROGRAM[0] = os.path.abspath(sys.argv.pop(1))
-    result = unittest.TextTestRunner(stream=sys.stdout).run(unittest.defaultTestLoader.loadTestsFromName("__main__"))
-    failed = len(result.failures) + len(result.errors)
-    print(f"{result.testsRun - failed - len(result.skipped)} passed, {failed} failed")
-    return 1 if failed else 0
-
-
-if __name__ == "__main__":
-    sys.exit(main())
+    sys.exit(run_tests())
