@@ -12,6 +12,7 @@ from program import OF_REGION, TOP, told_of
 from refused import demand
 
 EXAMPLES = "examples"
+SAID = b"erts_alloc_run: "
 PROGRAM = "crates/erts_alloc_run"
 CASES = "crates/ea_trials_cases"
 # As often as examples/check does it where each run may give another text.
@@ -38,11 +39,16 @@ def output_of(words, data, **how):
     return ran.returncode, ran.stdout, ran.stderr
 
 
-def text_of(words, data, **how):
-    """The text of a run that has to end with status 0."""
+def line_in(said):
+    """The program's line, without what ./run adds."""
+    return b"".join(it for it in said.splitlines(keepends=True) if it.startswith(SAID))
+
+
+def text_of(words, data, due=0, **how):
+    """The text of a run that has to end with this status; where that isn't 0, it is an error line."""
     status, text, said = output_of(words, data, **how)
-    demand(status == 0, f"status {status}: {told_of(said)}")
-    return text
+    demand(status == due, f"status {status}: {told_of(said)}")
+    return line_in(said) + text
 
 
 class Texts:
@@ -52,8 +58,8 @@ class Texts:
         self.parts = {}
 
     def add(self, path):
-        """Takes a whole file, and returns its place."""
-        return self.add_parts(path, [read_bytes(path)])[0]
+        """Takes a whole file, which is empty if it isn't there, and returns its place."""
+        return self.add_parts(path, [read_bytes(path) if os.path.exists(f"{TOP}/{path}") else b""])[0]
 
     def add_parts(self, path, parts):
         """Takes the parts of a file, and returns their places."""
@@ -73,15 +79,17 @@ class Texts:
 
 @dataclass
 class Stored:
-    """A run with a stored text, or with several of which each run gives one. Its name says where they stand."""
+    """A run with a stored text, or with several of which each run gives one. Its name says where they stand; its status
+    is the one that it has to end with."""
 
     name: str
     places: list
     words: list
     input: bytes
+    status: int = 0
 
     def text(self, program):
-        return text_of([program, *self.words], self.input)
+        return text_of([program, *self.words], self.input, self.status)
 
     def texts(self, program):
         """What it gives, as often as it has to be run."""
@@ -114,7 +122,7 @@ class Case(Stored):
 
     def text(self, program):
         status, text, said = output_of([program, *self.words], self.input)
-        error = b"error " + said if said else b""
+        error = line_in(said).replace(SAID, b"error " + SAID)
         return f"{self.name}\nstatus {status}\n".encode() + error + text + b"\n"
 
 
@@ -128,7 +136,7 @@ class Table(Stored):
 
 def words_of(path):
     """The words of a file, one a line."""
-    return [it.decode() for it in read_bytes(path).splitlines()]
+    return read_bytes(path).splitlines()
 
 
 def examples(texts):
@@ -137,9 +145,11 @@ def examples(texts):
         name, ending = os.path.splitext(file)
         if ending == ".flags":
             data = read_bytes(f"{name.partition('.')[0]}.trace")
+            status = int(read_bytes(f"{name}.status")) if f"{name}.status" in files else 0
             wanted = [it for it in files if re.fullmatch(rf"{re.escape(name)}\.out[0-9]*", it)]
+            places = [texts.add(it) for it in ([f"{name}.err"] if status else wanted)]
             kind = Threaded if {b"threads", OF_REGION.encode()} & {*data.split(b"\n")} else Stored
-            yield kind(name, [texts.add(it) for it in wanted], words_of(file), data)
+            yield kind(name, places, words_of(file), data, status)
         elif ending == ".command":
             words = shlex.split(read_bytes(file).decode().replace("\\\n", ""))
             yield Table(name, [texts.add(f"{name}.table")], words, b"")
@@ -153,7 +163,7 @@ def read_cases(data):
         if word == b"case":
             name, words, has_input = line.decode(), [], False
         elif word == b"words":
-            words = ["" if it == b"''" else it.decode() for it in rest.split()]
+            words = [b"" if it == b"''" else it for it in rest.split()]
         elif line in (b"input", b"same input"):
             made, has_input = made if word == b"same" else b"", True
         elif word in (b">", b"+"):

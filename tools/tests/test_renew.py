@@ -182,6 +182,21 @@ class Renew(unittest.TestCase):
         )
         self.assertEqual((ran.returncode, ran.stdout, ran.stderr), (0, "2 passed, 0 failed\n", ""))
 
+    def test_an_error_line(self):
+        """As examples/check takes it: a status in a file, and the line in another, or none."""
+        self.write("examples/refused.trace", "type H\nfrob\n")
+        self.write("examples/refused.flags", "+MMscs\n1\n")
+        self.write("examples/refused.status", "2\n")
+        self.program()
+        said = "erts_alloc_run: line 2: syntax"
+        wanted = f"examples/refused: another text than wanted\n    +{said}\n0 passed, 1 failed\n"
+        self.assertEqual(self.renew("examples/refused"), (1, wanted, ""))
+        self.write("examples/refused.err", f"{said}\n")
+        self.assertEqual(self.renew("examples/refused"), (0, "1 passed, 0 failed\n", ""))
+        self.write("examples/refused.err", f"{said.replace('line', 'row')}\n")
+        self.assertEqual(self.renew("examples/refused", "--replacing", "line", "row")[0], 0)
+        self.assertEqual(self.read("examples/refused.err"), f"{said}\n")
+
     # What is renewed
 
     def test_a_stated_word(self):
