@@ -4,7 +4,7 @@ use ea_hist::run_hist;
 use ea_recorded::run_recorded;
 use ea_super::run_super;
 use ea_top::run;
-use ea_trials::{Case, NotRun, Ran, Streams, words_of};
+use ea_trials_runs::{Case, NotRun, Ran, Streams, words_of};
 use ea_types::run_types;
 use std::alloc::Global;
 use std::sync::Wait;

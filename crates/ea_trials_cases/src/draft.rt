@@ -1,6 +1,6 @@
 //! The case that the lines so far make.
 use crate::lines::Line;
-use ea_trials::{Case, PLAIN};
+use ea_trials_runs::{Case, PLAIN};
 use std::alloc::{AllocError, Global};
 
 /// A case, and the input of the one before it.

@@ -1,7 +1,7 @@
 //! Why the cases ended early.
 use ea_io::{Failed, ReadAllFault};
 use ea_model::OutOfMemory;
-use ea_trials::NotRun;
+use ea_trials_runs::NotRun;
 use std::alloc::AllocError;
 use std::str::Utf8Error;
 

@@ -34,7 +34,7 @@ use commands::run_case;
 use draft::Draft;
 use ea_io::{Sink, Source, StdSink, StdSource, put_number, put_text, read_all, write_all};
 use ea_model::List;
-use ea_trials::Ran;
+use ea_trials_runs::Ran;
 use fault::Fault;
 use lines::Line;
 use std::alloc::Global;

@@ -1,4 +1,5 @@
-use ea_trials::{Case, NotRun, PLAIN};
+//! What is left where a call of the source or of a sink fails.
+use crate::{Case, NotRun, PLAIN};
 use std::alloc::Global;
 use std::process::Abort;
 use std::test::Fail;

@@ -1,5 +1,6 @@
+//! The longest input, the most operations, and one more of each.
+use crate::{NotRun, run_words};
 use ea_model::{List, OutOfMemory};
-use ea_trials::{NotRun, run_words};
 use ea_trials_io::{LengthSink, MemSink, PlainSource};
 use std::alloc::Global;
 use std::test::Fail;
