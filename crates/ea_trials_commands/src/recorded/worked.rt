@@ -1,0 +1,64 @@
+//! Worked inputs of recorded operations.
+ghost use Rattle.std.specs.Prelude.{◌≡◌, [], ◌∷◌, codes, Some, None};
+ghost use Rattle.ea_model.specs.Words.{words};
+ghost use Rattle.ea_model.specs.declared.operations.Op.TheVariants as op;
+ghost use Rattle.ea_trace.specs.declared.fault.TraceFault.TheVariants as fault;
+ghost use Rattle.ea_trials_commands.specs.Recorded.{order, refused, texts, turns};
+
+/// Each scheduler has its own operations, and is told of each line whose it is.
+pub fn two_schedulers()
+    ensures texts { texts 2 (codes
+        "type B\n1 alloc 1 8\n2 alloc 2 9\n# 1 idle\n1 give 1 2\n\n2 take 1 3\n2 free 1\nend\n")
+        ≡ (op.Alloc 1 8 ∷ op.Give 1 2 ∷ []) ∷ (op.Alloc 2 9 ∷ op.Take 1 3 ∷ op.Free 1 ∷ []) ∷ [] }
+    ensures order { order 2 (codes
+        "type B\n1 alloc 1 8\n2 alloc 2 9\n# 1 idle\n1 give 1 2\n\n2 take 1 3\n2 free 1\nend\n")
+        ≡ 1 ∷ 2 ∷ 1 ∷ 2 ∷ 2 ∷ [] }
+    ensures no_lines { texts 2 (codes "\ntype T\nend\n") ≡ [] ∷ [] ∷ [] }
+{}
+
+/// Without migration an `alloc` takes one turn, a `give` and a `take` that gets at once two, a
+/// `free` to another's queue three, and an `idle` that finds a node in the queue two. At the end
+/// each scheduler takes its queue once more.
+pub fn turns_of_lines()
+    ensures turns { turns (words (codes "+S 2")) (codes
+        "type T\n1 alloc 1 8\n2 alloc 2 9\n1 give 1 2\n2 take 1 3\n2 free 1\n1 idle\nend\n")
+        ≡ 1 ∷ 2 ∷ 1 ∷ 1 ∷ 2 ∷ 2 ∷ 2 ∷ 2 ∷ 2 ∷ 1 ∷ 1 ∷ 1 ∷ 2 ∷ [] }
+    ensures idle_alone { turns [] (codes "type T\n1 idle\nend\n") ≡ 1 ∷ 1 ∷ [] }
+    ensures one_scheduler { turns [] (codes "type T\n1 alloc 1 8\n1 idle\nend\n") ≡ 1 ∷ 1 ∷ 1 ∷ [] }
+    ensures too_early { turns (words (codes "+S 2")) (codes
+        "type T\n1 alloc 1 8\n2 take 1 3\n1 give 1 2\n2 free 1\nend\n")
+        ≡ 1 ∷ 2 ∷ 2 ∷ 2 ∷ 2 ∷ 1 ∷ 1 ∷ 2 ∷ 1 ∷ 2 ∷ [] }
+{}
+
+/// What is wrong by itself comes before what the trace is refused for.
+pub fn refused_inputs()
+    ensures nothing { refused 1 (codes "") ≡ Some fault.NoEnd }
+    ensures comments { refused 1 (codes "# type B\n\n") ≡ Some fault.NoEnd }
+    ensures no_type { refused 1 (codes "1 alloc 1 8\n") ≡ Some (fault.Syntax 1) }
+    ensures no_scheduler { refused 1 (codes "type B\nalloc 1 8\n") ≡ Some (fault.Syntax 2) }
+    ensures no_bytes { refused 1 (codes "type B\n1 alloc 1\n") ≡ Some (fault.Syntax 2) }
+    ensures stops { refused 1 (codes "type B\n1 stop 1 5\n") ≡ Some (fault.Syntax 2) }
+    ensures turns { refused 1 (codes "type B\n1*2\n") ≡ Some (fault.Syntax 2) }
+    ensures two_turns { refused 1 (codes "type B\n1 1\n") ≡ Some (fault.Syntax 2) }
+    ensures comment_after { refused 1 (codes "type B\n1 # x\n") ≡ Some (fault.Syntax 2) }
+    ensures section { refused 1 (codes "type B\nscheduler 1\n") ≡ Some (fault.Syntax 2) }
+    ensures two_types { refused 1 (codes "type B\ntype B\n") ≡ Some (fault.Syntax 2) }
+    ensures after_end { refused 1 (codes "type B\nend\n# x\n1 idle\n") ≡ Some (fault.Syntax 4) }
+    ensures other { refused 1 (codes "type B\n2 alloc 1 8\n") ≡ Some (fault.BadScheduler 2) }
+    ensures large { refused 1 (codes "type B\n9999999999 idle\n") ≡ Some (fault.BadScheduler 2) }
+    ensures digits { refused 1 (codes "type B\n10000000000 idle\n") ≡ Some (fault.Syntax 2) }
+    ensures given { refused 1 (codes "type B\n1 alloc 1 8\n1 give 1 2\n")
+        ≡ Some (fault.BadScheduler 3) }
+    ensures no_end { refused 1 (codes "type B\n1 free 9\n") ≡ Some fault.NoEnd }
+    ensures reused { refused 1 (codes "type B\n1 alloc 1 8\n\n1 alloc 1 8\nend\n")
+        ≡ Some (fault.NameReused 4) }
+    ensures reused_by_another { refused 2 (codes "type B\n2 alloc 1 8\n1 alloc 1 8\nend\n")
+        ≡ Some (fault.NameReused 2) }
+    ensures not_held { refused 2 (codes "type B\n1 alloc 1 8\n2 free 1\nend\n")
+        ≡ Some (fault.NotHeld 3) }
+    ensures not_addressed { refused 2 (codes "# x\ntype B\n2 idle\n1 take 1 5\nend\n")
+        ≡ Some (fault.NotAddressed 4) }
+    ensures wrong_first { refused 1 (codes "type B\n1 free 9\n1 frob\nend\n")
+        ≡ Some (fault.Syntax 3) }
+    ensures accepted { refused 64 (codes "type B\n64 alloc 1 8\n 64\tfree  1 \nend\n# x") ≡ None }
+{}

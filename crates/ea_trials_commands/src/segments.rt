@@ -1,0 +1,4 @@
+//! Inputs for one shared region.
+
+mod runs;
+pub mod worked;

@@ -1,7 +1,0 @@
-use Rattle.std.proofs.Common.{refl}
-use Rattle.std.specs.Fmt.{digits}
-use Rattle.ea_trials_super.proofs.worked.one_scheduler.Goals as goal
-
-pub returns-clause-text : goal.returns-clause-text
-unfolding digits
-returns-clause-text c = refl
