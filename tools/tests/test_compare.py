@@ -77,7 +77,7 @@ class Compare(unittest.TestCase):
 
     def compare(self, *words, folder=None):
         ran = subprocess.run(
-            self.words(*words), capture_output=True, text=True, cwd=folder or self.room, timeout=120, check=False
+            self.words(*words), capture_output=True, text=True, cwd=folder or self.room, check=False
         )
         self.assertNotIn("Traceback", ran.stderr)
         return ran.returncode, ran.stdout, ran.stderr
@@ -319,12 +319,11 @@ class Compare(unittest.TestCase):
         self.assertEqual([(it["mark"], it["carriers_end"]) for it in rows], [("one", 1), ("two", 2), ("end", 2)])
 
     def test_a_run_that_takes_too_long(self):
-        self.file("slow", "#!/bin/sh\n" + '[ "${2:-}" = 0 ] && sleep 60\n' + f'exec {shlex.quote(program())} "$@"\n')
+        """Without its end it would have the status 0 after all."""
+        self.file("slow", "#!/bin/sh\n" + '[ "${2:-}" = 0 ] && sleep 600\n' + f'exec {shlex.quote(program())} "$@"\n')
         os.chmod(f"{self.room}/slow", 0o755)
-        began = time.monotonic()
         words = ["--program", "./slow", "--seconds", "3", *KEPT_APART, "--as", "json"]
         status, text, said = self.compare(self.file("a.trace", one()), *words)
-        self.assertLess(time.monotonic() - began, 40)
         self.assertEqual((status, said), (1, "compare: a.trace: +MHacul 0: it was ended after 3 seconds\n"))
         self.assertEqual(json.loads(text)[0]["status"], None)
 
@@ -536,7 +535,7 @@ class Compare(unittest.TestCase):
 
     def test_an_interrupt_leaves_what_had_ended(self):
         self.file("a.trace", one())
-        lines = ["#!/bin/sh", '[ "${2:-}" = bf ] && touch begun && sleep 60', f'exec {shlex.quote(program())} "$@"', ""]
+        lines = ["#!/bin/sh", '[ "${2:-}" = bf ] && touch begun && sleep 600', f'exec {shlex.quote(program())} "$@"', ""]
         slow = self.file("slow", "\n".join(lines))
         os.chmod(f"{self.room}/slow", 0o755)
         words = ["a.trace", "--program", slow, "--jobs", "1", "--each", "+MHas gf bf af", "--columns", "list,status"]
@@ -548,15 +547,15 @@ class Compare(unittest.TestCase):
             self.assertIsNone(ran.poll())
             time.sleep(0.05)
         os.killpg(ran.pid, signal.SIGINT)
-        text, said = ran.communicate(timeout=50)
+        text, said = ran.communicate()
         self.assertEqual(ran.returncode, 130)
         self.assertTrue(said.startswith("compare: interrupted\n"), said)
         self.assertIn("+MHas gf       0\n", text)
         self.assertNotIn("Traceback", said)
 
     def test_a_signal_to_the_tool_alone_ends_its_runs_at_once(self):
-        """Also what a run has started: nothing of it is left."""
-        lines = ["#!/bin/sh", '[ "${2:-}" = bf ] && touch begun && { sleep 61; exit 0; }',
+        """Also what a run has started: it does not come to its end."""
+        lines = ["#!/bin/sh", '[ "${2:-}" = bf ] && touch begun && { sh -c "sleep 600; touch ended"; exit 0; }',
                  f'exec {shlex.quote(program())} "$@"', ""]
         self.file("slow", "\n".join(lines))
         os.chmod(f"{self.room}/slow", 0o755)
@@ -568,10 +567,9 @@ class Compare(unittest.TestCase):
             while not os.path.exists(f"{self.room}/begun"):
                 self.assertIsNone(ran.poll())
                 time.sleep(0.05)
-            began = time.monotonic()
             ran.send_signal(number)
-            text, said = ran.communicate(timeout=50)
-            self.assertLess(time.monotonic() - began, 30)
+            text, said = ran.communicate()
+            self.assertFalse(os.path.exists(f"{self.room}/ended"))
             self.assertEqual((ran.returncode, said), (130, "compare: interrupted\n"), text)
             os.unlink(f"{self.room}/begun")
 

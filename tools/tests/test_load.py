@@ -22,12 +22,15 @@ import sys
 import tempfile
 import time
 import unittest
+import unittest.mock
 
 TOP = os.path.realpath(os.path.join(os.path.dirname(os.path.realpath(__file__)), "..", ".."))
 LOAD = f"{TOP}/tools/load"
 NODE_LOAD = f"{TOP}/tools/node_load.escript"
 LEFT_BY_GATE = f"{TOP}/crates/erts_alloc_run/out/erts_alloc_run"
 PROGRAM = os.path.abspath(sys.argv[1]) if len(sys.argv) > 1 else LEFT_BY_GATE
+# How long what hangs is waited for, on however busy a machine.
+LONGEST_SECONDS = 1800
 FIRST = "node-load 1\n"
 SMALL = FIRST + "type B\nblocks 64 64 1\nblocks 128 128 2\nblocks 256 256 5\n"
 # The SHA-256 of what one machine made of SMALL with the words of test_same_bytes, so that a change of bytes is seen. It
@@ -160,7 +163,7 @@ class Case(unittest.TestCase):
 
     def process(self, *words, **more):
         more = {"stdout": subprocess.PIPE, "stderr": subprocess.PIPE, **more}
-        return subprocess.run([LOAD, *map(str, words)], timeout=60, text=True, check=False, **more)
+        return subprocess.run([LOAD, *map(str, words)], text=True, check=False, **more)
 
     def made(self, text, *words, schedulers=1):
         """The trace of a file with this text."""
@@ -570,15 +573,17 @@ class Refusals(Case):
         self.assertEqual((done.returncode, done.stdout, done.stderr.count("\n")), (2, "", 1))
 
     def test_a_trace_that_is_too_long(self):
-        """With the turns of 64 schedulers so many operations are more than the program reads; nothing is written."""
-        path, out = self.file(SMALL), f"{self.room}/long"
-        words = ["--operations", 1048576, "--schedulers", 64, "--ending", "turns", "--output", out, path]
-        done = self.load(*words)
-        said = r"load: the trace has (\d+) bytes, and the program reads 16777216: give fewer --operations\n"
-        found = re.fullmatch(said, done.stderr)
-        self.assertEqual((done.returncode, done.stdout, bool(found)), (1, "", True))
-        self.assertGreater(int(found[1]), 16777216)
+        """One of as many bytes as the program reads is written, and of one with a byte more nothing is. What the
+        program reads is made less here, since a trace of 16 MB takes a minute."""
+        self.assertEqual(TOOL.LARGEST_INPUT, 16777216)
+        path, out = self.file(SMALL), f"{self.room}/trace"
+        length = len(self.load(path).stdout)
+        with unittest.mock.patch.object(TOOL, "LARGEST_INPUT", length - 1):
+            line = f"the trace has {length} bytes, and the program reads {length - 1}: give fewer --operations"
+            self.refused(line, "--output", out, path)
         self.assertFalse(os.path.exists(out))
+        with unittest.mock.patch.object(TOOL, "LARGEST_INPUT", length):
+            self.assertEqual(self.load("--output", out, path).returncode, 0)
 
     def test_bad_outputs(self):
         path = self.file(SMALL)
@@ -607,7 +612,7 @@ class Refusals(Case):
             with subprocess.Popen(["cat", pipe], stdout=read) as reader:
                 try:
                     self.assertEqual(self.load("--output", pipe, self.file(SMALL)).returncode, 0)
-                    self.assertEqual(reader.wait(timeout=60), 0)
+                    self.assertEqual(reader.wait(), 0)
                 finally:
                     reader.kill()
             read.seek(0)
@@ -622,14 +627,15 @@ class Refusals(Case):
         os.mkfifo(path)
         with subprocess.Popen([LOAD, path], stdout=subprocess.PIPE, stderr=subprocess.PIPE, text=True) as waiting:
             try:
-                writer = within(30, lambda: os.open(path, os.O_WRONLY | os.O_NONBLOCK))
+                writer = within(LONGEST_SECONDS, lambda: os.open(path, os.O_WRONLY | os.O_NONBLOCK))
                 # One that comes just before it reads would be seen only after the read.
-                for _ in range(6):
+                for _ in range(LONGEST_SECONDS // 60):
                     if waiting.poll() is None:
                         waiting.send_signal(signal.SIGINT)
                     with contextlib.suppress(subprocess.TimeoutExpired):
-                        waiting.wait(timeout=5)
-                out, error = waiting.communicate(timeout=30)
+                        waiting.wait(timeout=60)
+                self.assertIsNotNone(waiting.poll())
+                out, error = waiting.communicate()
                 os.close(writer)
             finally:
                 waiting.kill()
@@ -749,7 +755,7 @@ gaps by their size
 def run_of(test, path, *flags):
     """The text of a trace's run."""
     with open(path, "rb") as trace:
-        done = subprocess.run([PROGRAM, *flags], stdin=trace, capture_output=True, text=True, timeout=60, check=False)
+        done = subprocess.run([PROGRAM, *flags], stdin=trace, capture_output=True, text=True, check=False)
     test.assertEqual((done.returncode, done.stderr), (0, ""))
     return done.stdout
 
@@ -813,16 +819,16 @@ class LiveNode(Case):
                "ERL_CRASH_DUMP_SECONDS": "0"}
         sizes = ",".join(f"{{{size},{count}}}" for size, count, _ in self.KNOWN)
         held = f"[binary:copy(<<1>>, Size) || {{Size, Count}} <- [{sizes}], _ <- lists:seq(1, Count)]"
-        words = f"Held = {held}, io:format(\"ready~n\"), timer:sleep(60000), halt(length(Held) rem 2)."
+        words = f"Held = {held}, io:format(\"ready~n\"), timer:sleep({1000 * LONGEST_SECONDS}), halt(length(Held) rem 2)."
         command = ["erl", "-noinput", "-start_epmd", "false", "-sname", self.NODE, "-setcookie", self.COOKIE,
                    "-kernel", "inet_dist_use_interface", "{127,0,0,1}", "-eval", words]
         with self.started(["epmd", "-address", "127.0.0.1", "-port", port], env, ""):
-            within(30, lambda: socket.create_connection(("127.0.0.1", int(port)), timeout=5).close())
+            within(LONGEST_SECONDS, lambda: socket.create_connection(("127.0.0.1", int(port)), timeout=5).close())
             with self.started(command, env, "ready"):
                 yield env
 
     def ask(self, env, *words):
-        done = subprocess.run(["escript", NODE_LOAD, *words], env=env, capture_output=True, text=True, timeout=60)
+        done = subprocess.run(["escript", NODE_LOAD, *words], env=env, capture_output=True, text=True)
         return done.returncode, done.stdout, done.stderr
 
     def test_from_node_to_run(self):

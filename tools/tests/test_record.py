@@ -62,7 +62,7 @@ class Case(unittest.TestCase):
         return f"{self.room}/{name}"
 
     def run_tool(self, *words, **how):
-        return subprocess.run(words, capture_output=True, text=True, timeout=300, check=False, **how)
+        return subprocess.run(words, capture_output=True, text=True, check=False, **how)
 
     def load(self, *words, status=0):
         ran = self.run_tool(sys.executable, "-B", LOAD, *words)
