@@ -2,7 +2,6 @@
 """What the program expected where it refuses a word or a line: the second line of ./run and of the tools.
 
 expected.py LINE -- WORDS says it of the program's line for these words, and of standard input, where that is a file.
-With an empty LINE it says the program's line and its own where the words alone are refused, and else nothing.
 """
 import difflib
 import os
@@ -333,14 +332,7 @@ def main(words):
     if len(words) < 2 or words[1] != "--":
         print("expected.py: due are LINE -- WORDS", file=sys.stderr)
         return 2
-    said, given = words[0], words[2:]
-    flags = command_and_flags(given)[1]
-    if not said:
-        found = refusal(flags)
-        if found:
-            print(f"erts_alloc_run: {found[0]}\nrun: expected: {found[1]}")
-        return 0
-    found = explained(said, given, data_of_input())
+    found = explained(words[0], words[2:], data_of_input())
     if found:
         print(f"run: expected: {found}")
     return 0

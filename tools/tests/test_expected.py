@@ -1,14 +1,13 @@
 #!/usr/bin/env python3
-"""Tests of tools/expected.py, and of ./run where it answers before a build: python3 tools/tests/test_expected.py [PROGRAM].
+"""Tests of tools/expected.py: python3 tools/tests/test_expected.py [PROGRAM].
 
-Each refusal of docs/FORMATS.md's tables of flags is compared with what expected.py says beforehand; the sentences are
-this file's. PROGRAM is asked for the lines, if it is there. The last line is 'N passed, M failed'.
+Each refusal of docs/FORMATS.md's tables of flags is compared with what expected.py takes it for; the sentences are this
+file's. PROGRAM is asked for the lines, if it is there. The last line is 'N passed, M failed'.
 """
 import os
 import re
 import subprocess
 import sys
-import tempfile
 import unittest
 
 TOP = os.path.dirname(os.path.dirname(os.path.dirname(os.path.realpath(__file__))))
@@ -131,55 +130,6 @@ class Lines(unittest.TestCase):
     def test_what_is_not_known(self):
         self.assertIsNone(explained("out of memory", [], None))
         self.assertEqual(explained("line 3: syntax", [], None), "docs/FORMATS.md says what a line may be")
-
-
-class Run(unittest.TestCase):
-    """./run, where it needs no program."""
-
-    def run_words(self, *words):
-        ran = subprocess.run([f"{TOP}/run", *words], stdin=subprocess.DEVNULL, capture_output=True, text=True, check=False)
-        return ran.returncode, ran.stdout, ran.stderr
-
-    def test_help(self):
-        for word in ("-h", "--help"):
-            status, text, said = self.run_words(word)
-            self.assertEqual((status, said), (0, ""))
-            self.assertTrue(text.startswith("usage: ./run FLAGS"))
-
-    def test_keep_wants_a_file(self):
-        self.assertEqual(self.run_words("--unproved", "--keep")[0], 70)
-
-    def test_a_second_line(self):
-        if not PROGRAM:
-            self.skipTest("there is no program")
-        with tempfile.TemporaryDirectory() as room:
-            self.make_checkout(room)
-            trace = f"{room}/bad.trace"
-            with open(trace, "w", encoding="utf-8") as made:
-                made.write("type H\nscheduler 1\nend\n")
-            with open(trace, "rb") as source:
-                ran = subprocess.run([f"{room}/run"], stdin=source, capture_output=True, text=True, check=False)
-            wanted = "erts_alloc_run: line 3: syntax\nrun: expected: `schedule` or `threads` before `end`\n"
-            self.assertEqual((ran.returncode, ran.stdout, ran.stderr), (2, "", wanted))
-            ran = subprocess.run([f"{room}/run", "+MHas", "ff"], input="", capture_output=True, text=True, check=False)
-            wanted = f"erts_alloc_run: word 2: bad value\nrun: expected: {TAKES}\n"
-            self.assertEqual((ran.returncode, ran.stdout, ran.stderr), (1, "", wanted))
-
-    def make_checkout(self, room):
-        """A checkout of one crate, whose kept program is PROGRAM."""
-        os.makedirs(f"{room}/crates/erts_alloc_run/src")
-        os.mkdir(f"{room}/out")
-        os.symlink(f"{TOP}/tools", f"{room}/tools")
-        for name, text in (("crates.txt", "erts_alloc_run:\n"), ("crates/erts_alloc_run/src/main.rt", "\n")):
-            with open(f"{room}/{name}", "w", encoding="utf-8") as made:
-                made.write(text)
-        with open(f"{TOP}/run", encoding="utf-8") as source, open(f"{room}/run", "w", encoding="utf-8") as made:
-            made.write(source.read())
-        os.chmod(f"{room}/run", 0o755)
-        files = "crates.txt\ncrates/erts_alloc_run/src/main.rt\n"
-        line = f"cd {room} && printf '%s' '{files}' | LC_ALL=C sort | xargs sha256sum | sha256sum | cut -c 1-32"
-        found = subprocess.run(["sh", "-c", line], capture_output=True, text=True, check=True).stdout.strip()
-        os.symlink(PROGRAM, f"{room}/out/erts_alloc_run-{found}")
 
 
 if __name__ == "__main__":
