@@ -126,7 +126,7 @@ class Renew(unittest.TestCase):
     def renew(self, *words):
         ran = subprocess.run(
             [f"{self.room}/tools/renew", "--program", f"{self.room}/program", *words],
-            capture_output=True, text=True, timeout=300, check=False,
+            capture_output=True, text=True, check=False,
         )
         self.assertNotIn("Traceback", ran.stderr)
         return ran.returncode, ran.stdout, ran.stderr
