@@ -70,21 +70,22 @@ def code_and_clauses(lines):
     return code, clauses
 
 
-def test_files(folder):
-    """The names of the files whose modules are under #[cfg(test)]."""
+def test_modules(folder):
+    """The names of the modules under #[cfg(test)]; a module of one of them lies in a folder of its name."""
     names = set()
     for file in files(f"{folder}/src", ".rt"):
-        names.update(f"{it}.rt" for it in re.findall(r"#\[cfg\(test\)\]\s*mod (\w+);", text_of(file)))
+        names.update(re.findall(r"#\[cfg\(test\)\]\s*(?:pub )?mod (\w+);", text_of(file)))
     return names
 
 
 def counts(crate):
     folder = f"{TOP}/crates/{crate}"
     code = clauses = tests = 0
-    for_tests = test_files(folder)
+    for_tests = test_modules(folder)
     for file in files(f"{folder}/src", ".rt"):
         lines = plain_lines(file, "//")
-        if os.path.basename(file) in for_tests:
+        modules = os.path.relpath(file, f"{folder}/src").removesuffix(".rt").split("/")
+        if for_tests.intersection(modules):
             tests += len(lines)
             continue
         lines, of_tests = without_tests(lines)
