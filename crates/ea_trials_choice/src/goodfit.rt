@@ -1,12 +1,12 @@
 //! Gaps in bins: steps with known answers, and many steps beside a walk over all gaps.
-ghost use Rattle.std.specs.Prelude.{◌≡◌, ◌+◌, ◌^◌, ◌<◌, All, AllPairs, OnOk};
+ghost use Rattle.std.specs.Prelude.{◌≡◌, ◌+◌, ◌^◌, ◌<◌, All, OnOk};
 ghost use Rattle.std.specs.List.Sorted.{IsPermutation};
 ghost use Rattle.ea_model.specs.Keyed.{entered, item_at};
-ghost use Rattle.ea_goodfit.specs.Gaps.{address_of, IsBelow};
+ghost use Rattle.ea_goodfit.specs.Gaps.{address_of};
 
 use ea_goodfit::{BinnedGap, Bins, Fit};
 use ea_model::OutOfMemory;
-use ea_model::keyed::{enter_within, item_of, take_out};
+use ea_model::keyed::{enter_within, index_of, item_of};
 use std::alloc::Global;
 use std::process::Abort;
 use std::test::Fail;
@@ -31,17 +31,17 @@ fn enter(gap: BinnedGap, gaps: &mut Vec<BinnedGap>) -> Result<(), OutOfMemory>
 /// there is none.
 fn turn(bins: &mut Bins, plain: &mut Vec<BinnedGap>, gap: BinnedGap) -> Result<(), OutOfMemory>
     requires same { IsPermutation bins.old.held plain.old.items }
-    requires rising { AllPairs IsBelow plain.old.items }
     requires some { All (λ g. 0 < g.size) plain.old.items }
     requires size { 0 < gap.size }
     requires bounded { gap.size + 1 < 2 ^ 32 }
     ensures same { OnOk result (IsPermutation bins.new.held plain.new.items) }
-    ensures rising { OnOk result (AllPairs IsBelow plain.new.items) }
     ensures some { OnOk result (All (λ g. 0 < g.size) plain.new.items) }
 {
-    if let Some(held) = gap_at(gap.address, plain) {
+    let gaps = plain.as_slice();
+    if let Some(held) = gap_at(gap.address, gaps) {
+        let index = index_of(gap.address, gaps);
         bins.take(held);
-        take_out(held.address, plain);
+        plain.remove(index);
         return Ok(());
     }
     enter(gap, plain)?;

@@ -1,40 +1,73 @@
-use Rattle.std.proofs.Common.{◌≡◌, ◌≢◌, ℕ, ◌<◌, List, ◌∷◌, ◌++◌, sym, ap, ◌∙◌, subst, refl, arith}
-use Rattle.std.specs.Prelude.{All, AllPairs, IsSome, IsTrue, None, Some}
+use Rattle.std.proofs.Common.{◌≡◌, ◌≢◌, ℕ, ◌<◌, List, ◌∷◌, ◌++◌, length, get_or}
+use Rattle.std.proofs.Common.{sym, ap, ◌∙◌, subst, arith}
+use Rattle.std.specs.Prelude.{All, None, Some, remove}
+use Rattle.std.specs.List.{position_or_len}
 use Rattle.std.specs.List.Sorted.{IsPermutation}
-use Rattle.std.proofs.lemmas.List.Elements.{All-filter}
-use Rattle.std.proofs.lemmas.List.Kept.{AllPairs-filter}
+use Rattle.std.proofs.lemmas.List.Elements.{All-head, All-tail}
 use Rattle.std.proofs.lemmas.List.Sorted.{All-permutation, IsPermutation-cons}
+use Rattle.std.proofs.lemmas.List.Sorted.{IsPermutation-insert, IsPermutation-remove}
 use Rattle.std.proofs.lemmas.List.Sorted.{IsPermutation-sym, IsPermutation-trans}
-use Rattle.ea_model.specs.Keyed.{entered, item_at, without}
-use Rattle.ea_model.proofs.Rising.{All-entered, item_at-All, item_at-key, none-other}
-use Rattle.ea_model.proofs.Rising.{rising-entered}
+use Rattle.ea_model.specs.Keyed.{entered, is_after, item_at}
+use Rattle.ea_model.proofs.Options.{same-some}
+use Rattle.ea_model.proofs.Rising.{All-entered, insert-entered, none-other}
 use Rattle.ea_goodfit.specs.declared.gaps.BinnedGap.{BinnedGap}
-use Rattle.ea_goodfit.specs.Gaps.{address_of, is_held, some_gap, IsBelow}
-use Rattle.ea_goodfit.proofs.Found.{all_held}
-use Rattle.ea_goodfit.proofs.Permuted.{entered-permuted, held-permuted}
+use Rattle.ea_goodfit.specs.Gaps.{address_of, some_gap}
 use Rattle.ea_trials_choice.proofs.goodfit.turn.Goals as goal
-
--- the gap that is found at an address
-found_at : (gs : List BinnedGap) (a : ℕ) (g : BinnedGap) → item_at address_of gs a ≡ Some g
-    → IsSome (item_at address_of gs g.address)
-found_at gs a g e =
-    subst (λ n. IsSome (item_at address_of gs n)) (sym (item_at-key address_of a g gs e))
-    (subst (λ o. IsSome o) (sym e) refl)
 
 alone : (g : BinnedGap) → 0 < g.size → (rest : List BinnedGap) → some_gap g ++ rest ≡ g ∷ rest
 alone g some rest = grind arith
 
--- the gap that is found at an address, and the others
-taken_out : (held gs : List BinnedGap) (a : ℕ) (g : BinnedGap) → IsPermutation held gs
-    → AllPairs IsBelow gs → All (λ x. 0 < x.size) gs → item_at address_of gs a ≡ Some g
-    → IsPermutation held (some_gap g ++ without address_of g.address gs)
-taken_out held gs a g same rising some e =
-    let left = without address_of g.address gs in
-    subst (IsPermutation held)
-    (sym (alone g (item_at-All address_of (λ x. 0 < x.size) a g gs some e) left))
-    (IsPermutation-trans held gs (g ∷ left) same
-    (held-permuted g gs rising
-    (item_at-All address_of (λ h. IsTrue (is_held h gs)) a g gs (all_held gs) e)))
+-- the gap at an address, and the others
+parted : (gs xs : List BinnedGap) (a i : ℕ) (g : BinnedGap) → gs ≡ xs
+    → Some g ≡ item_at address_of gs a → i < length gs
+    → item_at address_of gs a ≡ Some (get_or gs i g)
+    → IsPermutation xs (g ∷ remove xs i)
+parted gs xs a i g same found within at =
+    IsPermutation-remove xs i g (subst (λ zs. i < length zs) same within)
+    (subst (λ zs. g ≡ get_or zs i g) same
+    (same-some (item_at address_of gs a) g (get_or gs i g) (sym found) at))
+
+-- the same, where the bins hold these gaps
+taken_out : (held xs : List BinnedGap) (i : ℕ) (g : BinnedGap) → All (λ x. 0 < x.size) xs
+    → IsPermutation held xs → IsPermutation xs (g ∷ remove xs i)
+    → IsPermutation held (some_gap g ++ remove xs i)
+taken_out held xs i g some same apart =
+    let left = remove xs i in
+    let size = All-head (λ x. 0 < x.size) g left
+    (All-permutation (λ x. 0 < x.size) xs (g ∷ left) apart some) in
+    subst (IsPermutation held) (sym (alone g size left))
+    (IsPermutation-trans held xs (g ∷ left) same apart)
+
+pub take-requires : goal.take-requires
+take-requires c = (
+  remove c.args.plain.now.items c.index_of-index.result,
+  taken_out c.args.bins.now.held c.args.plain.now.items c.index_of-index.result c.in-Some.held
+      c.requires.some c.requires.same
+      (parted c.as_slice-gaps.result.now c.args.plain.now.items c.args.gap.address
+      c.index_of-index.result c.in-Some.held c.as_slice-gaps.ensures.value c.in-Some.ensures
+      c.index_of-index.ensures.within (c.index_of-index.ensures.item c.in-Some.held)),
+)
+
+pub returns-in-Some-clause-same : goal.returns-in-Some-clause-same
+returns-in-Some-clause-same c =
+    subst (IsPermutation _) (sym c.remove.ensures.items)
+    (c.take.ensures.order (remove c.args.plain.now.items c.index_of-index.result)
+    (taken_out c.args.bins.now.held c.args.plain.now.items c.index_of-index.result c.in-Some.held
+    c.requires.some c.requires.same
+    (parted c.as_slice-gaps.result.now c.args.plain.now.items c.args.gap.address
+    c.index_of-index.result c.in-Some.held c.as_slice-gaps.ensures.value c.in-Some.ensures
+    c.index_of-index.ensures.within (c.index_of-index.ensures.item c.in-Some.held))))
+
+pub returns-in-Some-clause-some : goal.returns-in-Some-clause-some
+returns-in-Some-clause-some c =
+    subst (All (λ g. 0 < g.size)) (sym c.remove.ensures.items)
+    (All-tail (λ x. 0 < x.size) c.in-Some.held
+    (remove c.args.plain.now.items c.index_of-index.result)
+    (All-permutation (λ x. 0 < x.size) c.args.plain.now.items _
+    (parted c.as_slice-gaps.result.now c.args.plain.now.items c.args.gap.address
+    c.index_of-index.result c.in-Some.held c.as_slice-gaps.ensures.value c.in-Some.ensures
+    c.index_of-index.ensures.within (c.index_of-index.ensures.item c.in-Some.held))
+    c.requires.some))
 
 -- a gap more, in the bins and in the list
 put_in : (now room held gs : List BinnedGap) (g : BinnedGap) → 0 < g.size
@@ -46,41 +79,8 @@ put_in now room held gs g some order kept same =
     (subst (IsPermutation now) (alone g some room) order))
     (IsPermutation-trans (g ∷ held) (g ∷ gs) (entered address_of g gs)
     (IsPermutation-cons g held gs same)
-    (IsPermutation-sym (entered address_of g gs) (g ∷ gs) (entered-permuted g gs)))
-
-pub take-requires : goal.take-requires
-take-requires c = (
-  without address_of c.in-Some.held.address c.args.plain.now.items,
-  taken_out c.args.bins.now.held c.args.plain.now.items c.args.gap.address c.in-Some.held
-      c.requires.same c.requires.rising c.requires.some
-      (ap (λ gs. item_at address_of gs c.args.gap.address) (sym c.deref.ensures.value)
-      ∙ sym c.in-Some.ensures),
-)
-
-pub take_out-requires-clause-there : goal.take_out-requires-clause-there
-take_out-requires-clause-there c =
-    found_at c.args.plain.now.items c.args.gap.address c.in-Some.held
-    (ap (λ gs. item_at address_of gs c.args.gap.address) (sym c.deref.ensures.value)
-    ∙ sym c.in-Some.ensures)
-
-pub returns-in-Some-clause-same : goal.returns-in-Some-clause-same
-returns-in-Some-clause-same c =
-    subst (IsPermutation _) (sym c.take_out.ensures.rest)
-    (c.take.ensures.order (without address_of c.in-Some.held.address c.args.plain.now.items)
-    (taken_out c.args.bins.now.held c.args.plain.now.items c.args.gap.address c.in-Some.held
-    c.requires.same c.requires.rising c.requires.some
-    (ap (λ gs. item_at address_of gs c.args.gap.address) (sym c.deref.ensures.value)
-    ∙ sym c.in-Some.ensures)))
-
-pub returns-in-Some-clause-rising : goal.returns-in-Some-clause-rising
-returns-in-Some-clause-rising c =
-    subst (AllPairs IsBelow) (sym c.take_out.ensures.rest)
-    (AllPairs-filter IsBelow _ c.args.plain.now.items c.requires.rising)
-
-pub returns-in-Some-clause-some : goal.returns-in-Some-clause-some
-returns-in-Some-clause-some c =
-    subst (All (λ g. 0 < g.size)) (sym c.take_out.ensures.rest)
-    (All-filter _ (λ g. 0 < g.size) c.args.plain.now.items c.requires.some)
+    (subst (IsPermutation (g ∷ gs)) (insert-entered address_of g gs)
+    (IsPermutation-insert gs (position_or_len (is_after address_of g.address) gs) g)))
 
 none_there : (gs : List BinnedGap) (a : ℕ) → item_at address_of gs a ≡ None
     → All (λ g. g.address ≢ a) gs
@@ -93,7 +93,7 @@ put-requires-clause-address c = λ _.
     c.args.bins.now.held
     (IsPermutation-sym c.args.bins.now.held c.args.plain.now.items c.requires.same)
     (none_there c.args.plain.now.items c.args.gap.address
-    (ap (λ gs. item_at address_of gs c.args.gap.address) (sym c.deref.ensures.value)
+    (ap (λ gs. item_at address_of gs c.args.gap.address) (sym c.as_slice-gaps.ensures.value)
     ∙ sym c.in_default.ensures)))
 
 pub returns-clause-same : goal.returns-clause-same
@@ -101,14 +101,6 @@ returns-clause-same c =
     subst (IsPermutation _) (sym c.in_ok-enter.ensures)
     (put_in _ _ c.args.bins.now.held c.args.plain.now.items c.args.gap c.requires.size
     c.put.ensures.order c.reserve.ensures.held c.requires.same)
-
-pub returns-clause-rising : goal.returns-clause-rising
-returns-clause-rising c =
-    subst (AllPairs IsBelow) (sym c.in_ok-enter.ensures)
-    (rising-entered address_of c.args.gap c.args.plain.now.items c.requires.rising
-    (none_there c.args.plain.now.items c.args.gap.address
-    (ap (λ gs. item_at address_of gs c.args.gap.address) (sym c.deref.ensures.value)
-    ∙ sym c.in_default.ensures)))
 
 pub returns-clause-some : goal.returns-clause-some
 returns-clause-some c =
