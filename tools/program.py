@@ -110,7 +110,7 @@ def find_program(given, is_unproved, tell):
     kept = f"{glob.escape(TOP)}/out/erts_alloc_run-*"
     if not given and not glob.glob(kept):
         tell("./run is asked for the program, and may have to prove and build it for half an hour; --unproved takes"
-             " half a minute, and --program PATH takes one that is there")
+             " a minute or two, and --program PATH takes one that is there")
     try:
         ran = subprocess.run([path], input=SMALLEST_TRACE, stdout=subprocess.PIPE, check=False)
     except OSError as error:
