@@ -4,18 +4,49 @@ ghost use Rattle.ea_model.specs.declared.units.TheConstants.{MAX_PAGES, MIN_BLOC
 
 use crate::carrier_tags::{block_tag, lowest_tags};
 use ea_mbc::{Freed, Mbc, Placed, Resized, Spare};
-use ea_model::{Block, CarrierPlan, Gap, Inner, OutOfMemory};
+use ea_model::{CarrierPlan, Gap, Inner, OutOfMemory};
 use ea_tags::Header;
 use ea_tags::header::{MAX_SIZE, encode};
-use std::alloc::Global;
+use std::alloc::{AllocError, Global};
+use std::process::Abort;
 use std::test::Fail;
 
-// A carrier of one page, without blocks.
-fn one_page(alloc: Global) -> Result<Mbc, OutOfMemory> {
-    of_pages(alloc, 1, Inner::Bf)
+// What is tried on a carrier, and what it has to answer.
+#[derive(Copy)]
+enum Step {
+    // A block that needs these units gets this name: its offset and its units, and those of the
+    // largest gap then. None where no gap has room.
+    Put(u32, u32, Option<(u32, u32, u32)>),
+    // The block at the offset is released: the units of the gap before it, its own, those of the
+    // gap after it, and those of the largest gap then. None where no block begins.
+    Release(u32, Option<(u32, u32, u32, u32)>),
+    // The block at the offset is to have these units, more or fewer, and this name: the units that
+    // it had, those of the gap after it, its own then, and those of the largest gap. None where it
+    // stays as it was.
+    Resize(u32, u32, u32, Option<(u32, u32, u32, u32)>),
+    // The block at the offset has this name from then on.
+    Rename(u32, u32),
+    // Name and units of the block at the offset, and the units of the gap after it.
+    Block(u32, (u32, u32, u32)),
+    // The offsets of the gaps that are chosen for these units by bf, aobf and aoff.
+    Choices(u32, [Option<u32>; 3]),
+    // The units of all blocks.
+    Allocated(u32),
+    // The word in the first unit of the block at the offset.
+    Word(u32, u32),
+    // The offset of the lowest gap, and the words in its first and in its last unit.
+    LowestGap(Option<(u32, u32, u32)>),
 }
 
-fn of_pages(alloc: Global, pages: u32, inner: Inner) -> Result<Mbc, OutOfMemory>
+impl Clone for Step {
+    fn clone(&self) -> Result<Self, AllocError> {
+        Ok(*self)
+    }
+}
+
+use Step::{Allocated, Block, Choices, LowestGap, Put, Release, Rename, Resize, Word};
+
+fn of_pages(alloc: Global, pages: u32, kept: Inner) -> Result<Mbc, OutOfMemory>
     requires { (1 ≤ pages) × (pages ≤ MAX_PAGES) }
 {
     let plan = CarrierPlan {
@@ -25,16 +56,20 @@ fn of_pages(alloc: Global, pages: u32, inner: Inner) -> Result<Mbc, OutOfMemory>
         birth: 1,
         single: false,
     };
-    Mbc::new(alloc, plan, 1, inner)
+    Mbc::new(alloc, plan, 1, kept)
 }
 
-// Puts a block where the choice is, and answers its offset and what was placed.
-fn put(carrier: &mut Mbc, inner: Inner, need: u32, name: u32) -> Option<(u32, Placed)>
+// Puts a block into the lowest gap that has room, and answers its offset and what was placed.
+fn put(carrier: &mut Mbc, need: u32, name: u32) -> Option<(u32, Placed)>
     requires even { need % 2 ≡ 0 }
     requires least { MIN_BLOCK ≤ need }
 {
-    let gap = carrier.choose(inner, need)?;
+    let gap = carrier.choose(Inner::Aoff, need)?;
     Some((gap.offset, carrier.place(gap, need, name)))
+}
+
+fn placed((offset, size, largest): (u32, u32, u32)) -> (u32, Placed) {
+    (offset, Placed { size, largest })
 }
 
 // Releases the block that begins at the offset, if one does.
@@ -43,209 +78,63 @@ fn take_out(carrier: &mut Mbc, offset: u32) -> Option<Freed> {
     Some(carrier.release(offset))
 }
 
-fn placed(offset: u32, size: u32, largest: u32) -> Option<(u32, Placed)> {
-    Some((offset, Placed { size, largest }))
-}
-
-fn freed(before: u32, size: u32, after: u32, largest: u32) -> Option<Freed> {
-    Some(Freed {
+fn freed((before, size, after, largest): (u32, u32, u32, u32)) -> Freed {
+    Freed {
         before,
         size,
         after,
         largest,
-    })
-}
-
-fn resized(was: u32, after: u32, size: u32, largest: u32) -> Option<Resized> {
-    Some(Resized {
-        was,
-        after,
-        size,
-        largest,
-    })
-}
-
-#[test]
-fn released_neighbours_are_one_gap(rt: HostRuntime) -> Result<(), Fail> {
-    let mut carrier = one_page(rt.alloc())?;
-    assert_eq!(rt; put(&mut carrier, Inner::Bf, 14, 1), placed(8, 14, 490));
-    assert_eq!(rt; put(&mut carrier, Inner::Bf, 14, 2), placed(22, 14, 476));
-    assert_eq!(rt; put(&mut carrier, Inner::Bf, 14, 3), placed(36, 14, 462));
-    assert_eq!(rt; take_out(&mut carrier, 8), freed(0, 14, 0, 462));
-    assert_eq!(rt; take_out(&mut carrier, 22), freed(14, 14, 0, 462));
-    assert_eq!(rt; take_out(&mut carrier, 22), None);
-
-    // A rest of 2 units stays in the block.
-    assert_eq!(rt; put(&mut carrier, Inner::Bf, 26, 4), placed(8, 28, 462));
-    assert_eq!(rt; carrier.block_at(8), Some(Block { name: 4, size: 28 }));
-    assert_eq!(rt; take_out(&mut carrier, 36), freed(0, 14, 462, 476));
-    assert_eq!(rt; carrier.allocated(), 28);
-    Ok(())
-}
-
-fn at(gap: Option<Gap>) -> Option<u32> {
-    gap.map(|gap| gap.offset)
-}
-
-#[test]
-fn each_order_takes_its_own_gap(rt: HostRuntime) -> Result<(), Fail> {
-    for kept in [Inner::Bf, Inner::Aobf, Inner::Aoff] {
-        let mut carrier = of_pages(rt.alloc(), 1, kept)?;
-        for (name, need) in [(1, 20), (2, 6), (3, 14), (4, 6), (5, 14), (6, 6)] {
-            put(&mut carrier, Inner::Aoff, need, name);
-        }
-        for offset in [8, 34, 54] {
-            take_out(&mut carrier, offset);
-        }
-
-        // The gaps have 20 units at 8, 14 at 34, 14 at 54 and 438 at 74.
-        for (need, bf, aobf, aoff) in [
-            (0, Some(54), Some(34), Some(8)),
-            (14, Some(54), Some(34), Some(8)),
-            (20, Some(8), Some(8), Some(8)),
-            (22, Some(74), Some(74), Some(74)),
-            (438, Some(74), Some(74), Some(74)),
-            (440, None, None, None),
-        ] {
-            for (inner, offset) in [(Inner::Bf, bf), (Inner::Aobf, aobf), (Inner::Aoff, aoff)] {
-                assert_eq!(rt;
-                    at(carrier.choose(inner, need)),
-                    offset,
-                    "{inner:?} of {need}, kept by {kept:?}"
-                );
-            }
-        }
     }
-    Ok(())
 }
 
-#[test]
-fn a_carrier_fills_up(rt: HostRuntime) -> Result<(), Fail> {
-    let mut carrier = one_page(rt.alloc())?;
-
-    // A rest of 4 units stays in the block, and one of 6 is a gap.
-    assert_eq!(rt; put(&mut carrier, Inner::Bf, 500, 1), placed(8, 504, 0));
-    assert_eq!(rt; carrier.largest(), 0);
-    assert_eq!(rt; put(&mut carrier, Inner::Bf, 6, 2), None);
-    assert_eq!(rt; take_out(&mut carrier, 8), freed(0, 504, 0, 504));
-    assert_eq!(rt; put(&mut carrier, Inner::Bf, 498, 3), placed(8, 498, 6));
-    assert_eq!(rt; carrier.largest(), 6);
-
-    // A block fills a gap exactly.
-    assert_eq!(rt; put(&mut carrier, Inner::Bf, 6, 4), placed(506, 6, 0));
-    assert_eq!(rt; carrier.largest(), 0);
-    assert_eq!(rt; carrier.allocated(), 504);
-    Ok(())
-}
-
-// A block of 20 units at 8, a gap of 12, blocks of 14 at 40 and of 6 at 54, and a gap of 452 up to
-// the end. The blocks are called 1, 3 and 4.
-fn with_two_gaps(alloc: Global) -> Result<Mbc, OutOfMemory> {
-    let mut carrier = one_page(alloc)?;
-    for (name, need) in [(1, 20), (2, 12), (3, 14), (4, 6)] {
-        put(&mut carrier, Inner::Aoff, need, name);
-    }
-    take_out(&mut carrier, 28);
-    Ok(carrier)
-}
-
-// Name and units of the block at the offset, and the units of the gap after it.
-fn at_offset(carrier: &Mbc, offset: u32) -> Option<(u32, u32, u32)> {
-    let block = carrier.block_at(offset)?;
-    Some((block.name, block.size, carrier.gap_behind(offset)))
-}
-
-// Lets the block at the offset grow, if there is one that has fewer units. The units are even.
-fn grow(carrier: &mut Mbc, offset: u32, need: u32, name: u32) -> Option<Resized> {
-    let block = carrier.block_at(offset)?;
-    if need % 2 != 0 || need <= block.size {
+// Lets the block at the offset grow, or shrink by 6 units at least, if there is one. The units are
+// even, and 6 at least.
+fn resize(carrier: &mut Mbc, offset: u32, need: u32, name: u32) -> Option<Resized> {
+    let size = carrier.block_at(offset)?.size;
+    if need % 2 != 0 || need < 6 {
         return None;
     }
-    carrier.grow(offset, need, name)
-}
-
-// Shrinks the block at the offset, if there is one that gives back 6 units at least. The units are
-// even, and 6 at least.
-fn shrink(carrier: &mut Mbc, offset: u32, need: u32, name: u32) -> Option<Resized> {
-    let block = carrier.block_at(offset)?;
-    if need % 2 != 0 || need < 6 || block.size < need || block.size - need < 6 {
+    if need > size {
+        return carrier.grow(offset, need, name);
+    }
+    if size - need < 6 {
         return None;
     }
     Some(carrier.shrink(offset, need, name))
 }
 
+fn resized((was, after, size, largest): (u32, u32, u32, u32)) -> Resized {
+    Resized {
+        was,
+        after,
+        size,
+        largest,
+    }
+}
+
 // Renames the block at the offset, if there is one.
-fn rename(carrier: &mut Mbc, offset: u32, name: u32) -> Option<()> {
-    carrier.block_at(offset)?;
-    carrier.rename(offset, name);
-    Some(())
+fn rename(carrier: &mut Mbc, offset: u32, name: u32) {
+    if carrier.block_at(offset).is_some() {
+        carrier.rename(offset, name);
+    }
 }
 
-#[test]
-fn a_block_grows_into_the_gap_after_it(rt: HostRuntime) -> Result<(), Fail> {
-    for (offset, need, grown, then) in [
-        // A rest of 6 units is a gap, and one of 4, 2 or 0 stays in the block.
-        (8, 26, resized(20, 12, 26, 452), (9, 26, 6)),
-        (8, 28, resized(20, 12, 32, 452), (9, 32, 0)),
-        (8, 30, resized(20, 12, 32, 452), (9, 32, 0)),
-        (8, 32, resized(20, 12, 32, 452), (9, 32, 0)),
-        (8, 34, None, (1, 20, 12)),
-        // There is no gap.
-        (40, 16, None, (3, 14, 0)),
-        // The gap ends with the carrier.
-        (54, 452, resized(6, 452, 452, 12), (9, 452, 6)),
-        (54, 454, resized(6, 452, 458, 12), (9, 458, 0)),
-        (54, 458, resized(6, 452, 458, 12), (9, 458, 0)),
-        (54, 460, None, (4, 6, 452)),
-    ] {
-        let mut carrier = with_two_gaps(rt.alloc())?;
-        assert_eq!(rt;
-            grow(&mut carrier, offset, need, 9),
-            grown,
-            "{offset} to {need}"
-        );
-        assert_eq!(rt;
-            at_offset(&carrier, offset),
-            Some(then),
-            "{offset} to {need}"
-        );
-    }
-    Ok(())
+// Name and units of the block at the offset, and the units of the gap after it.
+fn block_of(carrier: &Mbc, offset: u32) -> Option<(u32, u32, u32)> {
+    let block = carrier.block_at(offset)?;
+    Some((block.name, block.size, carrier.gap_behind(offset)))
 }
 
-#[test]
-fn a_block_shrinks_and_is_renamed_in_its_place(rt: HostRuntime) -> Result<(), Fail> {
-    for (offset, need, shrunk, after) in [
-        // What is given back, 6 and 14 units, and the gap of 12 units are one gap.
-        (8, 14, resized(20, 12, 14, 452), 18),
-        (8, 6, resized(20, 12, 6, 452), 26),
-        // There was no gap.
-        (40, 8, resized(14, 0, 8, 452), 6),
-    ] {
-        let mut carrier = with_two_gaps(rt.alloc())?;
-        assert_eq!(rt;
-            shrink(&mut carrier, offset, need, 9),
-            shrunk,
-            "{offset} to {need}"
-        );
-        assert_eq!(rt;
-            at_offset(&carrier, offset),
-            Some((9, need, after)),
-            "{offset} to {need}"
-        );
-        assert_eq!(rt;
-            at_offset(&carrier, 54),
-            Some((4, 6, 452)),
-            "{offset} to {need}"
-        );
-    }
+fn offset_of(gap: Option<Gap>) -> Option<u32> {
+    gap.map(|gap| gap.offset)
+}
 
-    let mut carrier = with_two_gaps(rt.alloc())?;
-    assert_eq!(rt; rename(&mut carrier, 40, 9), Some(()));
-    assert_eq!(rt; at_offset(&carrier, 8), Some((1, 20, 12)));
-    assert_eq!(rt; at_offset(&carrier, 40), Some((9, 14, 0)));
-    assert_eq!(rt; at_offset(&carrier, 54), Some((4, 6, 452)));
-    Ok(())
+fn choices(carrier: &Mbc, need: u32) -> [Option<u32>; 3] {
+    [
+        offset_of(carrier.choose(Inner::Bf, need)),
+        offset_of(carrier.choose(Inner::Aobf, need)),
+        offset_of(carrier.choose(Inner::Aoff, need)),
+    ]
 }
 
 // The word in the first unit of the block at the offset, if there is one.
@@ -260,53 +149,246 @@ fn word_of(header: Header) -> u32 {
     encode(header)
 }
 
-// Where the first gap lies, and the words in its first and in its last unit, if there is a gap.
-fn first_gap(carrier: &Mbc) -> Option<(u32, u32, u32)> {
+// Where the lowest gap lies, and the words in its first and in its last unit, if there is a gap.
+fn lowest_gap(carrier: &Mbc) -> Option<(u32, u32, u32)> {
     let (offset, (header, last)) = lowest_tags(carrier)?;
     Some((offset, word_of(header), last))
 }
 
+// Compares what a call that changes the carrier answers; false of one that changes nothing.
+fn changes(rt: &impl Abort, carrier: &mut Mbc, step: &Step) -> bool {
+    match step {
+        Put(need, name, wanted) => {
+            assert!(rt; *need % 2 == 0 && *need >= 6);
+            let got = put(carrier, *need, *name);
+            assert_eq!(rt; got, wanted.map(placed), "put {need} {name}");
+        }
+        Release(offset, wanted) => {
+            let got = take_out(carrier, *offset);
+            assert_eq!(rt; got, wanted.map(freed), "release {offset}");
+        }
+        Resize(offset, need, name, wanted) => {
+            let got = resize(carrier, *offset, *need, *name);
+            assert_eq!(rt; got, wanted.map(resized), "resize {offset} {need}");
+        }
+        Rename(offset, name) => rename(carrier, *offset, *name),
+        _ => return false,
+    }
+    true
+}
+
+// Compares what is told of the carrier.
+fn compare(rt: &impl Abort, carrier: &Mbc, step: &Step) {
+    match step {
+        Block(offset, wanted) => {
+            let got = block_of(carrier, *offset);
+            assert_eq!(rt; got, Some(*wanted), "block {offset}");
+        }
+        Choices(need, wanted) => {
+            assert_eq!(rt; choices(carrier, *need), *wanted, "choices {need}");
+        }
+        Allocated(wanted) => assert_eq!(rt; carrier.allocated(), *wanted),
+        Word(offset, wanted) => {
+            assert_eq!(rt; word(carrier, *offset), Some(*wanted), "word {offset}");
+        }
+        LowestGap(wanted) => assert_eq!(rt; lowest_gap(carrier), *wanted),
+        _ => {}
+    }
+}
+
+// Tries the steps, first ones and others, on a carrier of some pages whose gaps are kept in that
+// order.
+fn tried(
+    rt: &impl Abort,
+    alloc: Global,
+    (pages, kept): (u32, Inner),
+    first: &[Step],
+    others: &[Step],
+) -> Result<(), OutOfMemory> {
+    assert!(rt; 1 <= pages && pages <= 64);
+    let mut carrier = of_pages(alloc, pages, kept)?;
+    take_steps(rt, &mut carrier, first);
+    take_steps(rt, &mut carrier, others);
+    Ok(())
+}
+
+fn take_steps(rt: &impl Abort, carrier: &mut Mbc, steps: &[Step]) {
+    for step in steps {
+        if !changes(rt, carrier, step) {
+            compare(rt, carrier, step);
+        }
+    }
+}
+
+const PAGE: (u32, Inner) = (1, Inner::Bf);
+
 #[test]
-fn units_tell_of_blocks_and_gaps(rt: HostRuntime) -> Result<(), Fail> {
-    let mut carrier = of_pages(rt.alloc(), 64, Inner::Aoff)?;
-    for name in 1..4 {
-        put(&mut carrier, Inner::Aoff, 14, name);
-    }
+fn released_neighbours_are_one_gap(rt: HostRuntime) -> Result<(), Fail> {
+    let steps = [
+        Put(14, 1, Some((8, 14, 490))),
+        Put(14, 2, Some((22, 14, 476))),
+        Put(14, 3, Some((36, 14, 462))),
+        Release(8, Some((0, 14, 0, 462))),
+        Release(22, Some((14, 14, 0, 462))),
+        Release(22, None),
+        // A rest of 2 units stays in the block.
+        Put(26, 4, Some((8, 28, 462))),
+        Block(8, (4, 28, 0)),
+        Release(36, Some((0, 14, 462, 476))),
+        Allocated(28),
+    ];
+    tried(&rt, rt.alloc(), PAGE, &steps, &[])?;
+    Ok(())
+}
 
-    // Eight times the units, 1 more for a gap, 2 where a gap ends before it, 4 for the last one.
-    for offset in [8, 22, 36] {
-        assert_eq!(rt; word(&carrier, offset), Some(112), "at {offset}");
-    }
-    assert_eq!(rt; first_gap(&carrier), Some((50, 261_749, 32_718)));
+#[test]
+fn each_order_takes_its_own_gap(rt: HostRuntime) -> Result<(), Fail> {
+    let gaps = [
+        Put(20, 1, Some((8, 20, 484))),
+        Put(6, 2, Some((28, 6, 478))),
+        Put(14, 3, Some((34, 14, 464))),
+        Put(6, 4, Some((48, 6, 458))),
+        Put(14, 5, Some((54, 14, 444))),
+        Put(6, 6, Some((68, 6, 438))),
+        Release(8, Some((0, 20, 0, 438))),
+        Release(34, Some((0, 14, 0, 438))),
+        Release(54, Some((0, 14, 0, 438))),
+    ];
 
-    // The block at 22 is released, that at 8 takes of its gap, and then all of it.
-    for (need, before, gap, after) in [
-        (14, 112, (22, 113, 14), 114),
-        (20, 160, (28, 65, 8), 114),
-        (24, 224, (50, 261_749, 32_718), 112),
-    ] {
-        take_out(&mut carrier, 22);
-        grow(&mut carrier, 8, need, 1);
-        assert_eq!(rt; word(&carrier, 8), Some(before), "at {need} units");
-        assert_eq!(rt; first_gap(&carrier), Some(gap), "at {need} units");
-        assert_eq!(rt; word(&carrier, 36), Some(after), "at {need} units");
+    // The gaps have 20 units at 8, 14 at 34, 14 at 54 and 438 at 74.
+    let steps = [
+        Choices(0, [Some(54), Some(34), Some(8)]),
+        Choices(14, [Some(54), Some(34), Some(8)]),
+        Choices(20, [Some(8), Some(8), Some(8)]),
+        Choices(22, [Some(74), Some(74), Some(74)]),
+        Choices(438, [Some(74), Some(74), Some(74)]),
+        Choices(440, [None, None, None]),
+    ];
+    for kept in [Inner::Bf, Inner::Aobf, Inner::Aoff] {
+        tried(&rt, rt.alloc(), (1, kept), &gaps, &steps)?;
     }
     Ok(())
 }
 
 #[test]
+fn a_carrier_fills_up(rt: HostRuntime) -> Result<(), Fail> {
+    let steps = [
+        // A rest of 4 units stays in the block, and one of 6 is a gap.
+        Put(500, 1, Some((8, 504, 0))),
+        Put(6, 2, None),
+        Release(8, Some((0, 504, 0, 504))),
+        Put(498, 3, Some((8, 498, 6))),
+        // A block fills a gap exactly.
+        Put(6, 4, Some((506, 6, 0))),
+        Allocated(504),
+    ];
+    tried(&rt, rt.alloc(), PAGE, &steps, &[])?;
+    Ok(())
+}
+
+// A block of 20 units at 8, a gap of 12, blocks of 14 at 40 and of 6 at 54, and a gap of 452 up to
+// the end. The blocks are called 1, 3 and 4.
+const TWO_GAPS: [Step; 5] = [
+    Put(20, 1, Some((8, 20, 484))),
+    Put(12, 2, Some((28, 12, 472))),
+    Put(14, 3, Some((40, 14, 458))),
+    Put(6, 4, Some((54, 6, 452))),
+    Release(28, Some((0, 12, 0, 452))),
+];
+
+#[test]
+fn a_block_grows_into_the_gap_after_it(rt: HostRuntime) -> Result<(), Fail> {
+    for (offset, need, grown, then) in [
+        // A rest of 6 units is a gap, and one of 4, 2 or 0 stays in the block.
+        (8, 26, Some((20, 12, 26, 452)), (9, 26, 6)),
+        (8, 28, Some((20, 12, 32, 452)), (9, 32, 0)),
+        (8, 30, Some((20, 12, 32, 452)), (9, 32, 0)),
+        (8, 32, Some((20, 12, 32, 452)), (9, 32, 0)),
+        (8, 34, None, (1, 20, 12)),
+        // There is no gap.
+        (40, 16, None, (3, 14, 0)),
+        // The gap ends with the carrier.
+        (54, 452, Some((6, 452, 452, 12)), (9, 452, 6)),
+        (54, 454, Some((6, 452, 458, 12)), (9, 458, 0)),
+        (54, 458, Some((6, 452, 458, 12)), (9, 458, 0)),
+        (54, 460, None, (4, 6, 452)),
+    ] {
+        let steps = [Resize(offset, need, 9, grown), Block(offset, then)];
+        tried(&rt, rt.alloc(), PAGE, &TWO_GAPS, &steps)?;
+    }
+    Ok(())
+}
+
+#[test]
+fn a_block_shrinks_and_is_renamed_in_its_place(rt: HostRuntime) -> Result<(), Fail> {
+    for (offset, need, shrunk, after) in [
+        // What is given back, 6 and 14 units, and the gap of 12 units are one gap.
+        (8, 14, (20, 12, 14, 452), 18),
+        (8, 6, (20, 12, 6, 452), 26),
+        // There was no gap.
+        (40, 8, (14, 0, 8, 452), 6),
+    ] {
+        let steps = [
+            Resize(offset, need, 9, Some(shrunk)),
+            Block(offset, (9, need, after)),
+            Block(54, (4, 6, 452)),
+        ];
+        tried(&rt, rt.alloc(), PAGE, &TWO_GAPS, &steps)?;
+    }
+    let steps = [
+        Rename(40, 9),
+        Block(8, (1, 20, 12)),
+        Block(40, (9, 14, 0)),
+        Block(54, (4, 6, 452)),
+    ];
+    tried(&rt, rt.alloc(), PAGE, &TWO_GAPS, &steps)?;
+    Ok(())
+}
+
+// Eight times the units, 1 more for a gap, 2 where a gap ends before it, 4 for the last one.
+#[test]
+fn units_tell_of_blocks_and_gaps(rt: HostRuntime) -> Result<(), Fail> {
+    let steps = [
+        Put(14, 1, Some((8, 14, 32_746))),
+        Put(14, 2, Some((22, 14, 32_732))),
+        Put(14, 3, Some((36, 14, 32_718))),
+        Word(8, 112),
+        Word(22, 112),
+        Word(36, 112),
+        LowestGap(Some((50, 261_749, 32_718))),
+        Release(22, Some((0, 14, 0, 32_718))),
+        Word(8, 112),
+        LowestGap(Some((22, 113, 14))),
+        Word(36, 114),
+        // The block at 8 takes of the gap, and then all of it.
+        Resize(8, 20, 1, Some((14, 14, 20, 32_718))),
+        Word(8, 160),
+        LowestGap(Some((28, 65, 8))),
+        Word(36, 114),
+        Resize(8, 24, 1, Some((20, 8, 28, 32_718))),
+        Word(8, 224),
+        LowestGap(Some((50, 261_749, 32_718))),
+        Word(36, 112),
+    ];
+    tried(&rt, rt.alloc(), (64, Inner::Aoff), &steps, &[])?;
+    Ok(())
+}
+
+#[test]
 fn the_last_one_ends_where_the_carrier_does(rt: HostRuntime) -> Result<(), Fail> {
-    let mut carrier = of_pages(rt.alloc(), 64, Inner::Aoff)?;
-    put(&mut carrier, Inner::Aoff, 14, 1);
-    assert_eq!(rt; first_gap(&carrier), Some((22, 261_973, 32_746)));
-    put(&mut carrier, Inner::Aoff, 32_746, 2);
-    assert_eq!(rt; first_gap(&carrier), None);
-    assert_eq!(rt; word(&carrier, 22), Some(261_972));
-    shrink(&mut carrier, 22, 14, 2);
-    assert_eq!(rt; word(&carrier, 22), Some(112));
-    assert_eq!(rt; first_gap(&carrier), Some((36, 261_861, 32_732)));
-    take_out(&mut carrier, 22);
-    assert_eq!(rt; first_gap(&carrier), Some((22, 261_973, 32_746)));
+    let steps = [
+        Put(14, 1, Some((8, 14, 32_746))),
+        LowestGap(Some((22, 261_973, 32_746))),
+        Put(32_746, 2, Some((22, 32_746, 0))),
+        LowestGap(None),
+        Word(22, 261_972),
+        Resize(22, 14, 2, Some((32_746, 0, 14, 32_732))),
+        Word(22, 112),
+        LowestGap(Some((36, 261_861, 32_732))),
+        Release(22, Some((0, 14, 32_732, 32_746))),
+        LowestGap(Some((22, 261_973, 32_746))),
+    ];
+    tried(&rt, rt.alloc(), (64, Inner::Aoff), &steps, &[])?;
     Ok(())
 }
 
@@ -354,8 +436,8 @@ fn a_carrier_that_is_kept_is_like_a_new_one(rt: HostRuntime) -> Result<(), Fail>
         for name in 1..=blocks {
             let offset = 8 + 6 * (name - 1);
             assert_eq!(rt;
-                put(&mut carrier, Inner::Aobf, 6, name),
-                placed(offset, 6, units - offset - 6),
+                put(&mut carrier, 6, name),
+                Some(placed((offset, 6, units - offset - 6))),
                 "block {name} of carrier {number}"
             );
         }
@@ -367,7 +449,7 @@ fn a_carrier_that_is_kept_is_like_a_new_one(rt: HostRuntime) -> Result<(), Fail>
 
     // One that has a block is not kept: the next one has none.
     let mut carrier = of_pages(rt.alloc(), 1, Inner::Aobf)?;
-    put(&mut carrier, Inner::Aobf, 6, 1);
+    put(&mut carrier, 6, 1);
     spare.keep(carrier);
     let plan = CarrierPlan {
         number: 1,

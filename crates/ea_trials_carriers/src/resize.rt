@@ -3,6 +3,7 @@ use ea_model::Decision::{GrowHere, Move, ShrinkCarrier, ShrinkHere, Stay};
 use ea_model::units::MAX_UNITS;
 use ea_model::{Decision, Settings, Strategy, Where};
 use ea_resize::decide;
+use std::process::Abort;
 
 // A block above 65536 units has a singleblock carrier.
 const SETTINGS: Settings = Settings {
@@ -50,68 +51,72 @@ fn a_block_of_a_multiblock_carrier_stays_shrinks_grows_or_moves(rt: HostRuntime)
     }
 }
 
+// Compares what is decided of a block of `old` units that is to have `fresh` ones, in a singleblock
+// carrier of `units`. A case is these three, and the decision.
+fn compare_single(rt: &impl Abort, settings: Settings, cases: &[(u32, u32, u32, Decision)]) {
+    for (old, fresh, units, wanted) in cases {
+        let at = Where::Single { units: *units };
+        assert_eq!(rt;
+            decide(settings, *old, *fresh, at),
+            *wanted,
+            "of {old} and {fresh} in {units}"
+        );
+    }
+}
+
 #[test]
 fn a_block_of_a_singleblock_carrier_keeps_it_shrinks_it_or_moves(rt: HostRuntime) {
-    let all = Settings {
-        asbcst: 0,
-        rsbcst: 0,
-        ..SETTINGS
-    };
-    let relative = Settings {
-        asbcst: 0,
-        ..SETTINGS
-    };
+    let cases = [
+        // It fills the carrier, or has a unit too many.
+        (200_000, 204_792, 204_800, GrowHere),
+        (200_000, 204_793, 204_800, Move),
+        // It is for a multiblock carrier, and leaves four fifths of this one, or a unit less.
+        (200_000, 40_952, 204_800, Move),
+        (200_000, 40_953, 204_800, ShrinkHere),
+        // At the threshold, and above it.
+        (200_000, 65_536, 204_800, ShrinkHere),
+        (200_000, 65_537, 204_800, ShrinkCarrier { pages: 129 }),
+        // It leaves 131072 units, or one less.
+        (200_000, 73_720, 204_800, ShrinkCarrier { pages: 144 }),
+        (200_000, 73_721, 204_800, ShrinkHere),
+        // It doesn't shrink.
+        (73_720, 73_720, 204_800, Stay),
+        (73_719, 73_720, 204_800, GrowHere),
+    ];
+    compare_single(&rt, SETTINGS, &cases);
+
+    // All units are for multiblock carriers: it leaves four fifths of the largest, or a unit less.
     let largest = Settings {
         sbct: MAX_UNITS,
         ..SETTINGS
     };
     let cases = [
-        // It fills the carrier, or has a unit too many.
-        (SETTINGS, 200_000, 204_792, 204_800, GrowHere),
-        (SETTINGS, 200_000, 204_793, 204_800, Move),
-        // It is for a multiblock carrier, and leaves four fifths of this one, or a unit less.
-        (SETTINGS, 200_000, 40_952, 204_800, Move),
-        (SETTINGS, 200_000, 40_953, 204_800, ShrinkHere),
-        (largest, 60_000_000, 13_421_764, MAX_UNITS, Move),
-        (largest, 60_000_000, 13_421_765, MAX_UNITS, ShrinkHere),
-        // At the threshold, and above it.
-        (SETTINGS, 200_000, 65_536, 204_800, ShrinkHere),
-        (
-            SETTINGS,
-            200_000,
-            65_537,
-            204_800,
-            ShrinkCarrier { pages: 129 },
-        ),
-        // It leaves 131072 units, or one less.
-        (
-            SETTINGS,
-            200_000,
-            73_720,
-            204_800,
-            ShrinkCarrier { pages: 144 },
-        ),
-        (SETTINGS, 200_000, 73_721, 204_800, ShrinkHere),
-        // It leaves a fifth of the carrier, or a unit less.
-        (
-            relative,
-            200_000,
-            163_832,
-            204_800,
-            ShrinkCarrier { pages: 320 },
-        ),
-        (relative, 200_000, 163_833, 204_800, ShrinkHere),
-        // A page fewer holds it, or none.
-        (all, 102_392, 101_880, 102_400, ShrinkCarrier { pages: 199 }),
-        (all, 102_392, 101_881, 102_400, ShrinkHere),
-        // It doesn't shrink.
-        (SETTINGS, 73_720, 73_720, 204_800, Stay),
-        (SETTINGS, 73_719, 73_720, 204_800, GrowHere),
+        (60_000_000, 13_421_764, MAX_UNITS, Move),
+        (60_000_000, 13_421_765, MAX_UNITS, ShrinkHere),
     ];
-    for (settings, old, fresh, units, wanted) in cases {
-        let decided: Decision = decide(settings, old, fresh, Where::Single { units });
-        assert_eq!(rt; decided, wanted, "of {old} and {fresh} in {units}");
-    }
+    compare_single(&rt, largest, &cases);
+
+    // It leaves a fifth of the carrier, or a unit less.
+    let relative = Settings {
+        asbcst: 0,
+        ..SETTINGS
+    };
+    let cases = [
+        (200_000, 163_832, 204_800, ShrinkCarrier { pages: 320 }),
+        (200_000, 163_833, 204_800, ShrinkHere),
+    ];
+    compare_single(&rt, relative, &cases);
+
+    // A page fewer holds it, or none.
+    let all = Settings {
+        rsbcst: 0,
+        ..relative
+    };
+    let cases = [
+        (102_392, 101_880, 102_400, ShrinkCarrier { pages: 199 }),
+        (102_392, 101_881, 102_400, ShrinkHere),
+    ];
+    compare_single(&rt, all, &cases);
 }
 
 #[test]
