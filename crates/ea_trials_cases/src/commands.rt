@@ -1,4 +1,6 @@
 //! The run of a case by the command that its first word names.
+ghost use Rattle.std.specs.Prelude.{◌^◌, ◌<◌, length};
+
 use ea_contents::run_contents;
 use ea_hist::run_hist;
 use ea_recorded::run_recorded;
@@ -9,6 +11,25 @@ use ea_types::run_types;
 use std::alloc::Global;
 use std::sync::Wait;
 use std::thread::Threads;
+
+/// The first word; an empty one where there is none.
+fn first(words: &[String]) -> &str {
+    match words.first() {
+        Some(word) => word.as_str(),
+        None => "",
+    }
+}
+
+/// The words after the first.
+fn after_first(words: &[String]) -> &[String]
+    requires { length words.now < 2 ^ 32 }
+    ensures { length result.now < 2 ^ 32 }
+{
+    match words {
+        [] => words,
+        [_, after @ ..] => after,
+    }
+}
 
 /// Runs a case as the program does, on which no crate can stand: where its first word names a
 /// command, by that one over the words after it, and else as a trace.
@@ -23,11 +44,8 @@ pub fn run_case<R: Threads + Wait + Sync>(
         mut out,
         mut err,
     } = case.streams(alloc)?;
-    let (name, after) = match words.as_slice() {
-        [] => ("", words.as_slice()),
-        [name, after @ ..] => (name.as_str(), after),
-    };
-    let status = match name {
+    let after = after_first(&words);
+    let status = match first(&words) {
         "types" => run_types(rt, alloc, after, &mut source, &mut out, &mut err),
         "super" => run_super(rt, alloc, after, &mut source, &mut out, &mut err),
         "recorded" => run_recorded(alloc, after, &mut source, &mut out, &mut err),
