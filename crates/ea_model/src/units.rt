@@ -57,6 +57,23 @@ pub const MAX_DIGITS: usize = 10;
 /// The most bytes of an input.
 pub const MAX_INPUT: usize = 16_777_216;
 
+/// The values of the constants, so that another value of one is refused. What is printed, and what
+/// flags and traces may say, rests on them.
+pub fn constants()
+    ensures units { (UNIT_BYTES ≡ 8) × (KILOBYTE_UNITS ≡ 128) × (PAGE_UNITS ≡ 512) }
+    ensures pages { (MEGABYTE_PAGES ≡ 256) × (MAX_MEGABYTES ≡ 512) }
+    ensures super_carrier { (MAX_PAGES ≡ 131072) × (MAX_UNITS ≡ 67108864) }
+    ensures blocks { (HEADER_UNITS ≡ 8) × (BLOCK_HEADER ≡ 1) × (MIN_BLOCK ≡ 6) }
+    ensures instances { (NUMBERS ≡ 1024) × (MAX_SCHEDULERS ≡ 64) }
+    ensures searches { (SEARCH_LIMIT ≡ 16) × (LIST_LIMIT ≡ 8) }
+    ensures traces { (MAX_NAME ≡ 1048576) × (MAX_OPS ≡ 1048576) × (MAX_BYTES ≡ 1073741823) }
+    ensures tries { (MAX_TRIES ≡ 10000000) × (MAX_ALL_TRIES ≡ 100000000) }
+    ensures turns { (MAX_TURNS ≡ 100000000) × (MAX_STEPS ≡ 100000000) }
+    ensures settings { (MAX_PERCENT ≡ 100) × (MAX_GROWTH_CARRIERS ≡ 10000) }
+    ensures depth { MAX_SEARCH_DEPTH ≡ 1000 }
+    ensures words { (MAX_SEED ≡ 2147483647) × (MAX_DIGITS ≡ 10) × (MAX_INPUT ≡ 16777216) }
+{}
+
 /// The units that a request of `bytes` takes, at most `MAX_BYTES`: its bytes in whole units and the
 /// block's header, rounded up to an even number, and `MIN_BLOCK` at least.
 pub fn need(bytes: u32) -> u32
