@@ -68,7 +68,7 @@ lowest-Fits at end pages (s ∷ ss) t =
           (lowest-Fits (s.base + s.pages) end pages ss t.2))
     ]
 
-lowest_past : (pages : ℕ) (r : Segment) (rs : List Segment) → r.pages < pages
+pub lowest_past : (pages : ℕ) (r : Segment) (rs : List Segment) → r.pages < pages
     → lowest_run pages (r ∷ rs) ≡ lowest_run pages rs
 lowest_past pages r rs h = grind arith
 

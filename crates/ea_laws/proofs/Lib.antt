@@ -15,6 +15,7 @@ pub mod Laid
 pub mod Orderly
 pub mod Orders
 pub mod Owned
+pub mod Planning
 pub mod Extents
 pub mod Reallocating
 pub mod Refusals

@@ -4,3 +4,4 @@ pub mod Spots
 pub mod InOrder
 pub mod ChoiceLaws
 pub mod InstanceLaws
+pub mod PlanLaws

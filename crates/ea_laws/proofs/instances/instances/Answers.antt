@@ -1,6 +1,7 @@
 use Rattle.ea_laws.proofs.Blocks.{dismissing-same, creating-same, creating_single-IsPlaced}
 use Rattle.ea_laws.proofs.Blocks.{placing-IsPlaced, releasing-gone, releasing-others}
 use Rattle.ea_laws.proofs.Keeping.{chosen-planned}
+use Rattle.ea_laws.proofs.Planning.{plans-number, plans-size, plans-space}
 use Rattle.ea_laws.proofs.Reallocating.{resizing-Stands, resizing-begins, resizing-others}
 use Rattle.ea_laws.proofs.Refusals.{plan-numbers, plan-space}
 use Rattle.ea_laws.proofs.RegionUnits.{employed-within}
@@ -62,3 +63,12 @@ returns-clause-numbers c = plan-numbers
 
 pub returns-clause-space : goal.returns-clause-space
 returns-clause-space c = plan-space
+
+pub returns-clause-plans_number : goal.returns-clause-plans_number
+returns-clause-plans_number c = plans-number
+
+pub returns-clause-plans_size : goal.returns-clause-plans_size
+returns-clause-plans_size c = plans-size
+
+pub returns-clause-plans_space : goal.returns-clause-plans_space
+returns-clause-plans_space c = plans-space
