@@ -18,7 +18,7 @@ use Rattle.ea_machine.specs.Nodes.{named_at, spot_named, name_of}
 use Rattle.ea_machine.specs.Setup.{Setup, setup_of, text_for}
 use Rattle.ea_machine.specs.State.{State}
 use Rattle.ea_sound.specs.Present.{Rule}
-use Rattle.ea_sound.proofs.Protocols.{rule-run}
+use Rattle.ea_sound.proofs.RuleRuns.{rule-run}
 use Rattle.ea_sound.proofs.TextTotals.{All-back, text-All}
 
 all-greatest : (ops : List Op) → All (λ o. greatest_in o ≤ greatest_of ops) ops

@@ -54,7 +54,7 @@ use Rattle.ea_sound.specs.Present.{Fits, HasEmployer, HasOther, Rule, StillPoole
 use Rattle.ea_sound.specs.Rule.{Belongs, Kept, Standing, of_owner}
 use Rattle.ea_sound.specs.Leaves.{InWalk}
 use Rattle.ea_sound.specs.Steady.{AreSteady, IsShown, IsSteadyStage}
-use Rattle.ea_sound.proofs.Protocols.{lists-run}
+use Rattle.ea_sound.proofs.RuleRuns.{lists-run}
 use Rattle.ea_sound.proofs.SoundLists.{looks-number}
 use Rattle.ea_sound.proofs.Created.{scheduler-number}
 use Rattle.ea_sound.proofs.Starting.{regions-apart}
@@ -73,7 +73,7 @@ use Rattle.ea_sound.proofs.OwnEntries.{somewhere-hand, somewhere-home, somewhere
 use Rattle.ea_sound.proofs.Assembly.{Closed, Holds, turned-holds}
 use Rattle.ea_sound.proofs.CarrierMoves.{closed}
 use Rattle.ea_sound.proofs.LargestGaps.{laid-largest}
-use Rattle.ea_sound.proofs.Protocols.{steady-run}
+use Rattle.ea_sound.proofs.RuleRuns.{steady-run}
 use Rattle.ea_sound.proofs.StillMoves.{keeps-walk}
 use Rattle.ea_sound.proofs.RowLeaves.{creating-bare, row-left}
 use Rattle.ea_sound.proofs.SoundOwners.{content-number}

@@ -1,5 +1,5 @@
 -- What the turns so far say of a scheduler, by where it is in its operation.
-use Rattle.std.proofs.Common.{◌≡◌, ◌≢◌, ℕ, ◌+◌, ◌≤◌, List, [], ◌∷◌, ◌++◌, Bool, true, false}
+use Rattle.std.proofs.Common.{◌≡◌, ◌≢◌, ◌⊎◌, ℕ, ◌+◌, ◌≤◌, List, [], ◌∷◌, ◌++◌, Bool, true, false}
 use Rattle.std.proofs.Common.{refl, sym, ap, ◌∙◌, subst, arith}
 use Rattle.std.specs.Prelude.{Option, Some, None, Ok, ◌==◌, count_by, length}
 use Rattle.std.proofs.lemmas.List.{append-nil, append_assoc, length-append}
@@ -35,7 +35,7 @@ use Rattle.ea_machine.specs.declared.tasks.Gone.TheVariants.{Open, Here, Queued}
 use Rattle.ea_machine.specs.declared.asks.Ask.{Ask}
 use Rattle.ea_machine.specs.declared.nodes.Node.{Node}
 use Rattle.ea_machine.specs.Nodes.{block_node}
-use Rattle.ea_machine.specs.Machine.{run}
+use Rattle.ea_machine.specs.Machine.{run, run_on}
 use Rattle.ea_machine.specs.declared.nodes.Named.{Named}
 use Rattle.ea_machine.specs.Placements.{failed}
 use Rattle.ea_machine.specs.Searches.{fits}
@@ -49,7 +49,8 @@ use Rattle.ea_sound.specs.HandedOver.{HasHeld, HasPushed, IsAnother, IsReleasedH
 use Rattle.ea_sound.specs.Shown.{HasSeen, SeesEmployer, SeesItself}
 use Rattle.ea_sound.specs.Exhausted.{IsFailOf, seen_since}
 use Rattle.ea_sound.specs.Needs.{AsksFor}
-use Rattle.ea_sound.specs.Searches.{Searched, Shown, Sight, sight_if}
+use Rattle.ea_sound.specs.Searches.{IsSought, IsUnsought, Searched, Shown, Sight, sight_if}
+use Rattle.ea_sound.specs.Sought.{SoughtInVain}
 use Rattle.ea_sound.specs.Turns.{HoldsAfter, IsBegun, answered, begun, log_after}
 use Rattle.ea_sound.specs.Present.{OfAsk, OfTask}
 use Rattle.ea_sound.specs.Released.{LiesAt, blocks_named}
@@ -120,6 +121,7 @@ pub record Creates (e : Setup) (L : List ℕ) (s : ℕ) (a : Actor) (ask : Ask) 
   pub planned : plan a.instance ask.need ≡ Ok p
   pub none : ask.need ≤ e.settings.sbct → chosen_spot a.instance ask.need ≡ None
   pub old : HasOld e L s a.log ask.old
+  pub sought : SoughtInVain e L s ask.need a.log
 
 -- the begin of its operation, which takes a name, was over in a turn of L; none of its tries since
 -- then found the name, and that many are left
@@ -418,6 +420,31 @@ way-longer e L s j log n (Linking node to) g w = pushed-longer e L s j log n g w
 
 -- a turn of another scheduler adds nothing
 module _ (e : Setup) (L : List ℕ) (s j : ℕ) (ne : j ≢ s) where
+  vain-longer : (need : ℕ) (log : List Entry) → SoughtInVain e L s need log
+      → SoughtInVain e (L ++ j ∷ []) s need log
+  vain-longer need log v =
+      let d : (j == s) ≡ false = grind (arith, ne) in
+      let w : State = run e (v.before ++ s ∷ []) in
+      let sees : seen_since e v.before s (v.since ++ j ∷ []) ≡ seen_since e v.before s v.since =
+      sights-snoc e w s v.since j
+      ∙ ap (λ b. seen_since e v.before s v.since ++ sight_if b
+      ((run_on e w v.since).actors s).stage (answered (run_on e w v.since) s)) d
+      ∙ append-nil (seen_since e v.before s v.since) in
+      record {
+        before = v.before;
+        since = v.since ++ j ∷ [];
+        split = longer L v.before v.since s j v.split;
+        begins = v.begins;
+        same = v.same;
+        asks = v.asks;
+        none = v.none;
+        looked = v.looked;
+        sought = subst (λ xs. IsUnsought e need v.looked xs
+            ⊎ IsSought e (begun e v.before s).lists need v.looked xs) (sym sees) v.sought;
+        steps = omega
+            (arith, v.steps, count-snoc s v.since j, ap (λ b. one_if b) d, ap length sees);
+      }
+
   away : (need : ℕ) (R : Actor → Type 0) (P : Lists → List Sight → Type 0)
       → Underway e L s need R P
       → Underway e (L ++ j ∷ []) s need R P
@@ -451,6 +478,7 @@ module _ (e : Setup) (L : List ℕ) (s j : ℕ) (ne : j ≢ s) where
     planned = h.planned;
     none = h.none;
     old = old-longer e L s j a.log ask.old h.old;
+    sought = vain-longer ask.need a.log h.sought;
   }
   other-so_far a (Routed r Walk g) h = h
   other-so_far a (Routed r (For task) g) h = (

@@ -138,6 +138,18 @@ module _ (e : Setup) (rules : (L : List ℕ) → Rule e (run e L)) (L : List ℕ
     plan-fine ask o want asks none un =
         planned-fine e rules L me set is works ask 0 mid (plan mid.instance ask.need) refl k
         (asked-now ask o want asks)
+        (record {
+          before = L;
+          since = [];
+          split = refl;
+          begins = ready;
+          same = k.0;
+          asks = asks;
+          none = none;
+          looked = 0;
+          sought = inl (un, refl, refl);
+          steps = no-steps;
+        })
         (λ why r. fails e rules L me set is works ask 0 why mid L [] refl (refl, refl, refl, refl)
         (subst (OfAsk ask) (sym k.1) o)
         (record {

@@ -52,6 +52,7 @@ use Rattle.ea_sound.specs.Entries.{Tells}
 use Rattle.ea_sound.specs.HandedOver.{HasHeld, IsAnother, IsReleasedHere}
 use Rattle.ea_sound.specs.Shown.{SeesEmployer, SeesItself}
 use Rattle.ea_sound.specs.Exhausted.{FindsNoPlace, IsExhausted, IsFailOf}
+use Rattle.ea_sound.specs.Sought.{SoughtInVain}
 use Rattle.ea_sound.specs.Turns.{HoldsAfter, actor_after, begun}
 use Rattle.ea_sound.specs.Present.{OfAsk, OfTask, OldHeld, Rule, Fits, FitsRoute}
 use Rattle.ea_sound.specs.Contents.{actor_sum, seats}
@@ -686,6 +687,7 @@ module _ (e : Setup) (rules : (L : List ℕ) → Rule e (run e L)) (L : List ℕ
     -- no carrier can be created, or one is
     pub planned-fine : (ask : Ask) (looked : ℕ) (b : Actor) (o : Result CarrierPlan NoCarrier)
         → plan b.instance ask.need ≡ o → Keeps acting b → IsAsking ask
+        → SoughtInVain e turn me ask.need acting.log
         → ((why : NoCarrier) → plan b.instance ask.need ≡ Err why
         → IsNow (logged (failed ask looked why ask.old) b)
         → IsExhausted e L me (failed ask looked why ask.old) ask.need looked why)
@@ -695,7 +697,7 @@ module _ (e : Setup) (rules : (L : List ℕ) → Rule e (run e L)) (L : List ℕ
         → Creates e (run e L) me ask.need b.instance p
         × IsGoing (with_carrier ask p b p.single))
         → Fine (new_carrier_by e me ask looked b o)
-    planned-fine ask looked b (Err why) q k o x none want f =
+    planned-fine ask looked b (Err why) q k o v x none want f =
         by ask.old refl (outcomes ask looked why (record { carrier = 0; offset = 0; size = 0 })
         acting.todo o.0 ask.old refl)
       where
@@ -714,7 +716,7 @@ module _ (e : Setup) (rules : (L : List ℕ) → Rule e (run e L)) (L : List ℕ
             (λ now. subst (λ o. Tells e L me (failed ask looked why o)) (sym r)
             (subst (λ o. IsExhausted e L me (failed ask looked why o) ask.need looked why) r
             (x why q now)))
-    planned-fine ask looked b (Ok p) q k o x none want f = by (migration e) refl
+    planned-fine ask looked b (Ok p) q k o v x none want f = by (migration e) refl
       where
         by : (on : Bool) → migration e ≡ on → Fine (making e me ask p b on)
         by true m = (
@@ -728,6 +730,7 @@ module _ (e : Setup) (rules : (L : List ℕ) → Rule e (run e L)) (L : List ℕ
               old = subst (λ l. HasOld e turn me l ask.old) (sym k.0) o.2;
               planned = q;
               none = none;
+              sought = subst (SoughtInVain e turn me ask.need) (sym k.0) v;
             },
             inl (k.0, k.1),
           ),
@@ -783,6 +786,18 @@ module _ (e : Setup) (rules : (L : List ℕ) → Rule e (run e L)) (L : List ℕ
           ),
         )
         by false t = planned-fine ask (looked_in x.part) c (plan c.instance ask.need) refl k o
+            (record {
+              before = u.before;
+              since = u.since;
+              split = u.split;
+              begins = u.begins;
+              same = sym u.same.0 ∙ k.0;
+              asks = u.asks;
+              none = λ s. u.none;
+              looked = looked_in x.part;
+              sought = inr (on, small, (x, u.saw, t, refl));
+              steps = u.steps;
+            })
             (λ why r. fails ask (looked_in x.part) why c u.before u.since u.split u.same
             (subst (OfAsk ask) (sym k.1) o.0)
             (record {

@@ -18,6 +18,7 @@ use Rattle.ea_machine.specs.Setup.{Setup, is_scheduler}
 use Rattle.ea_machine.specs.State.{State}
 use Rattle.ea_machine.specs.Statistics.{observed}
 use Rattle.ea_machine.specs.Tasks.{later}
+use Rattle.ea_sound.specs.Sought.{CreatesIfSought}
 use Rattle.ea_sound.specs.Turns.{IsBegun, actor_after, answered, begun, log_after}
 use Rattle.ea_sound.specs.Present.{Rule}
 use Rattle.ea_sound.proofs.Chronicle.{SoFar, other-so_far}
@@ -29,7 +30,7 @@ use Rattle.ea_sound.proofs.TurnLists.{step-other}
 
 module _ (e : Setup) where
   -- where the begin is over, the operation itself follows in the same step
-  begun-going : (L : List ℕ) (s : ℕ) → IsBegun e (run e L) s → (actor_after e L s).stage ≢ Ended
+  pub begun-going : (L : List ℕ) (s : ℕ) → IsBegun e (run e L) s → (actor_after e L s).stage ≢ Ended
   begun-going L s b q =
       let t : Ended ≡ Ready = sym q ∙ subst (λ st. (after_row e s (actor_after e L s)
       (answered (run e L) s) st).stage ≡ Ready) q b in absurd (cc)
@@ -123,6 +124,11 @@ module _ (e : Setup) (rules : (L : List ℕ) → Rule e (run e L)) where
 
   pub so_far : (L : List ℕ) (s : ℕ) → Holds L s (actor_after e L s)
   so_far = by-turns (λ L. (s : ℕ) → Holds L s (actor_after e L s)) next-so_far started
+
+  -- who is about to create a carrier has sought one in vain
+  pub creates-if_sought : CreatesIfSought e
+  creates-if_sought turns s ask p q =
+      (subst (SoFar e turns s (actor_after e turns s)) q (so_far turns s).0).sought
 
   -- a turn of a scheduler leaves its log, or makes one entry that tells
   pub turn-told : (L : List ℕ) (s : ℕ) → Stays e rules L s (actor_after e (L ++ s ∷ []) s)

@@ -297,7 +297,7 @@ module _ (e : Setup) where
       replicate-others n (step e w s) s j ne ∙ step-other e w s j ne
 
   -- who has ended stays so
-  ended-on : (w : State) (js : List ℕ) (s : ℕ) → (w.actors s).stage ≡ Ended
+  pub ended-on : (w : State) (js : List ℕ) (s : ℕ) → (w.actors s).stage ≡ Ended
       → ((run_on e w js).actors s).stage ≡ Ended
   ended-on w [] s q = q
   ended-on w (j ∷ js) s q = ended-on (step e w j) js s (elim (cases_eq j s) [

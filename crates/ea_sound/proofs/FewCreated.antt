@@ -18,7 +18,7 @@ use Rattle.ea_machine.specs.State.{State}
 use Rattle.ea_sound.specs.FewCreated.{creations, most_created}
 use Rattle.ea_sound.specs.Turns.{advanced}
 use Rattle.ea_sound.proofs.Asked.{reached-rule}
-use Rattle.ea_sound.proofs.Protocols.{rule-run}
+use Rattle.ea_sound.proofs.RuleRuns.{rule-run}
 use Rattle.ea_sound.proofs.CreationsLeft.{advanced-births, creates-few}
 
 -- the operations of a scheduler are among those of the trace

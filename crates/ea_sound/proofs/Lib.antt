@@ -142,28 +142,36 @@ pub mod Failing
 pub mod SettledRoutes
 pub mod Queueing
 pub mod OwnerQueues
+pub mod WorkingOff
+-- What others' turns leave alone; what reports tell.
+pub mod OtherTurns
+pub mod ObservedWork
+pub mod Reporting
 -- Each schedule ends.
 pub mod Ending
 pub mod Completing
--- How many carriers an instance creates.
+-- Which carriers are created, and which abandoned.
 pub mod CreationsLeft
--- All together.
-pub mod Protocols
--- For threads.
+pub mod DueCarriers
+-- The rule at every moment, and what calls ask for in each reached state.
+pub mod RuleRuns
+pub mod Asked
+pub mod TraceNames
+pub mod Calls
+pub mod FewPassed
+-- Each scheduler ends, whatever the others do.
 pub mod Wanting
 pub mod Olders
-pub mod OtherTurns
 pub mod StandingNodes
 pub mod StandingOnce
 pub mod SpotRanges
 pub mod Takings
 pub mod OwnWork
+pub mod Progressing
+-- All together.
+pub mod Protocols
 -- For the code: what calls ask for, and, where carriers don't migrate, what schedulers do and what
 -- is printed.
-pub mod Asked
-pub mod TraceNames
-pub mod Calls
-pub mod FewPassed
 pub mod CarrierCalls
 pub mod ListedCalls
 pub mod LeavingCalls

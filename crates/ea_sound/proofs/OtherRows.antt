@@ -129,7 +129,7 @@ module _ {A : Type 0} (f : List Mark → A)
     | inr other ↦ ap f (put-other m to (link_in node (m to)) i other)
   ]
 
-  tried-rests : (c i : ℕ) (p : CarrierAt) (r : Answer) (s : Shared)
+  pub tried-rests : (c i : ℕ) (p : CarrierAt) (r : Answer) (s : Shared)
       → f ((moved_if r c p s).rests i) ≡ f (s.rests i)
   tried-rests c i p (Won x) s = refl
   tried-rests c i p (Lost v) s = refl

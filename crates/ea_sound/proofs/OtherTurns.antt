@@ -51,7 +51,7 @@ rest-since e me turns others still =
     ∙ rest-on e me (run e turns) others still
 
 -- the last one of a list, or one before it
-last-or : (turns before later : List ℕ) (i me : ℕ) → turns ++ i ∷ [] ≡ before ++ me ∷ later
+pub last-or : (turns before later : List ℕ) (i me : ℕ) → turns ++ i ∷ [] ≡ before ++ me ∷ later
     → ((before ≡ turns) × (me ≡ i)) ⊎ ((rest : List ℕ) × (turns ≡ before ++ me ∷ rest))
 last-or [] [] [] i me q = inl (refl, let e : i ∷ [] ≡ me ∷ [] = q in cc)
 last-or [] [] (x ∷ later) i me q = absurd (let e : i ∷ [] ≡ me ∷ x ∷ later = q in cc)

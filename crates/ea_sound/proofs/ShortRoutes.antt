@@ -29,14 +29,14 @@ some_rows None = 0
 some_rows (Some r) = route_rows r
 
 -- what a route leaves alone of a: its walk, the operations left, the log, the settings, the held
--- names, and how many carriers it created
+-- names, how many carriers it created, and the figures that were observed
 abbrev pub Same : Actor → Actor → Type 0
 Same a b = (b.passed ≡ a.passed) × (b.next ≡ a.next) × (b.todo ≡ a.todo) × (b.log ≡ a.log)
     × (b.instance.settings ≡ a.instance.settings) × (b.held ≡ a.held)
-    × (b.instance.created ≡ a.instance.created)
+    × (b.instance.created ≡ a.instance.created) × (b.mbcs ≡ a.mbcs) × (b.sbcs ≡ a.sbcs)
 
 same : (a : Actor) → Same a a
-same a = (refl, refl, refl, refl, refl, refl, refl)
+same a = (refl, refl, refl, refl, refl, refl, refl, refl, refl)
 
 -- a route of at most k rows is left
 abbrev pub Short : ℕ → Actor → Turned → Type 0
@@ -60,11 +60,11 @@ module _ (e : Setup) (me : ℕ) where
       → Short 3 a (leaving_by e me own on x g a)
   leaving-short false on x g a = (omega arith, same a)
   leaving-short true true x g a = (omega arith, same a)
-  leaving-short true false x g a = (omega arith, (refl, refl, refl, refl, refl, refl, refl))
+  leaving-short true false x g a = (omega arith, (refl, refl, refl, refl, refl, refl, refl, refl, refl))
 
   abandoned-short : (b : Bool) (x : Content) (g : Gone) (a : Actor)
       → Short 3 a (abandoned_if b x g a)
-  abandoned-short true x g a = (omega arith, (refl, refl, refl, refl, refl, refl, refl))
+  abandoned-short true x g a = (omega arith, (refl, refl, refl, refl, refl, refl, refl, refl, refl))
   abandoned-short false x g a = (omega arith, same a)
 
   lightened-short : (b : Bool) (x : Content) (g : Gone) (a : Actor)
@@ -146,7 +146,7 @@ module _ (e : Setup) (me : ℕ) where
       let s = settled-short (is_nil x.blocks) x g a in (omega (arith, s.0), s.1)
   turned-short (Abandoning x) g a z = (omega arith, same a)
   turned-short (Sending x) g a z = (omega arith, same a)
-  turned-short (Clearing x) g a z = (omega arith, (refl, refl, refl, refl, refl, refl, refl))
+  turned-short (Clearing x) g a z = (omega arith, (refl, refl, refl, refl, refl, refl, refl, refl, refl))
   turned-short (Pushing node to) g a z = (omega arith, same a)
   turned-short (Linking node to) g a z = (omega arith, same a)
 

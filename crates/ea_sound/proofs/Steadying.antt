@@ -97,5 +97,6 @@ first-steady e i false = tt
 pub start-steady : (e : Setup) → AreSteady e (start e)
 start-steady e i = record {
   walk = λ _ _. refl;
+  off = λ _. refl;
   route = first-steady e i (is_scheduler e i);
 }

@@ -21,7 +21,7 @@ use Rattle.ea_machine.specs.State.{State}
 use Rattle.ea_machine.specs.Sums.{one_if}
 use Rattle.ea_sound.proofs.Fading.{stays-gone}
 use Rattle.ea_sound.proofs.FewBlocks.{all_of}
-use Rattle.ea_sound.proofs.Protocols.{rule-run}
+use Rattle.ea_sound.proofs.RuleRuns.{rule-run}
 use Rattle.ea_sound.proofs.Ranged.{sum-flat}
 use Rattle.ea_sound.proofs.StartKept.{all-none}
 use Rattle.ea_sound.proofs.TextTotals.{total-text_for}

@@ -13,7 +13,9 @@ pub mod Turns
 pub mod Needs
 pub mod Searches
 pub mod Fetches
+pub mod Abandoned
 pub mod Exhausted
+pub mod Sought
 pub mod FirstFits
 pub mod Chosen
 pub mod Shown
@@ -24,12 +26,16 @@ pub mod Over
 pub mod Made
 pub mod Entries
 pub mod Heap
+pub mod Backlog
+pub mod Reported
 -- Rows: their guards, and answers that never come.
 pub mod Guarded
 pub mod Grounded
 pub mod Heard
 -- How many carriers are created.
 pub mod FewCreated
+-- That each scheduler ends.
+pub mod Progress
 -- What holds of each run.
 pub mod MachineLaws
 -- The rule that each step keeps, and the middle of a step.

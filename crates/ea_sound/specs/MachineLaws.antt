@@ -11,6 +11,9 @@ use Rattle.ea_machine.specs.Machine.{run, step}
 use Rattle.ea_machine.specs.Stops.{cut, left_after, run_with_stops}
 use Rattle.ea_machine.specs.Completion.{complete}
 use Rattle.ea_machine.specs.Courses.{Rests}
+use Rattle.ea_sound.specs.Abandoned.{AbandonsIfDue}
+use Rattle.ea_sound.specs.Backlog.{WorksOffInOrder}
+use Rattle.ea_sound.specs.Reported.{ReportsGreatest}
 use Rattle.ea_sound.specs.Units.{PrintsSums}
 use Rattle.ea_sound.specs.Sound.{Sound}
 use Rattle.ea_sound.specs.Made.{MakesItsOwn}
@@ -26,6 +29,8 @@ use Rattle.ea_sound.specs.Grounded.{AreGrounded}
 use Rattle.ea_sound.specs.Guarded.{IsGuarded}
 use Rattle.ea_sound.specs.Heap.{IsHeap}
 use Rattle.ea_sound.specs.Heard.{FindsOwn, HearsNoOther}
+use Rattle.ea_sound.specs.Progress.{EndsByItself}
+use Rattle.ea_sound.specs.Sought.{CreatesIfSought}
 
 -- it holds at each moment: after any list of steps
 abbrev pub AtEachMoment : (Setup → State → Type 0) → Setup → Type 0
@@ -68,10 +73,16 @@ pub record Protocol (setup : Setup) : Type 0 where
   -- beside its main carrier
   pub fetches : AtEachMoment FetchesFit setup
   pub creates : AtEachMoment CreatesFew setup
+  -- and one is created only where own carriers and the pool were searched in vain
+  pub seeks : CreatesIfSought setup
+  -- a carrier that is due after a release is abandoned
+  pub abandons : AbandonsIfDue setup
   -- each operation makes one entry, of its own kind, which tells how it came about: placements are
   -- chosen, and fails are exhausted
   pub logs : AtEachMoment LogEach setup
   pub enters : EntersOne setup
+  -- a report tells its figures as they are, and the greatest ones since the last report and ever
+  pub reports : ReportsGreatest setup
   -- where no place is found an operation fails, where its name isn't held it is skipped; where
   -- another employer is seen its block is queued to that, and where its scheduler sees itself the
   -- block is released; where carriers don't migrate, this goes by the owner of the carrier
@@ -80,6 +91,8 @@ pub record Protocol (setup : Setup) : Type 0 where
   pub queues : QueuesIfSeen setup
   pub releases : ReleasesIfSeen setup
   pub owners : QueuesByOwner setup
+  -- what is queued to a scheduler is worked off in the order in which it came
+  pub orders : WorksOffInOrder setup
   -- each name is in one place; no name is released twice, one that failed has no block, and both
   -- stay so
   pub names : AtEachMoment NamesInOnePlace setup
@@ -101,6 +114,9 @@ pub record Protocol (setup : Setup) : Type 0 where
   pub stops : HeedsStops setup
   pub within : CompletesWithin setup
   pub ends : AllComeToRest setup
+  -- each scheduler ends by its own steps, of which it takes no more than a number that is known
+  -- before, whatever the others do; so each fair schedule comes to an end
+  pub alone : EndsByItself setup
 
 -- it holds of each setup that a valid trace has under a valid configuration
 abbrev pub Always : (Setup → Type 0) → Type 0

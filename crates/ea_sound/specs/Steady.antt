@@ -73,9 +73,11 @@ module _ (e : Setup) (me : ℕ) (employs : List Content) where
   IsSteadyStage Ended = Unit {0}
   IsSteadyStage Ready = Unit {0}
 
--- where a walk is at its end and nothing is worked off, nothing is left of what it passed
+-- where a walk is at its end and nothing is worked off, nothing is left of what it passed; and only
+-- at its end is anything worked off
 pub record IsSteady (e : Setup) (me : ℕ) (a : Actor) : Type 0 where
   pub walk : works_off a.stage ≡ false → a.next ≡ None → a.passed ≡ []
+  pub off : works_off a.stage ≡ true → a.next ≡ None
   pub route : IsSteadyStage e me a.instance.contents a.stage
 
 -- so is each scheduler
