@@ -1,5 +1,5 @@
 -- A call under the lock: what the seat may do with the ledger, and what its pass knows then.
-use Rattle.std.proofs.Common.{◌≡◌, ℕ, ◌+◌, ◌≤◌, List, [], ◌∷◌, ◌++◌, drop, length, sym}
+use Rattle.std.proofs.Common.{◌≡◌, ℕ, ◌≤◌, List, [], ◌∷◌, ◌++◌, drop, length, sym}
 use Rattle.std.proofs.Common.{ap, ◌∙◌, subst, refl, arith}
 use Rattle.atomic_table.specs.Table.{Allows, Me, Step, rest}
 use Rattle.ea_segments.specs.declared.calls.Call.{Call}

@@ -1,17 +1,17 @@
 -- Taken segments, as one more is taken and as one goes back.
 use Rattle.std.proofs.Common.{◌≡◌, ℕ, ◌+◌, ◌<◌, ◌≤◌, List, [], ◌∷◌, length}
 use Rattle.std.proofs.Common.{drop, filter, sym, ap, ◌∙◌, subst, refl, inl, inr, arith, get_or}
-use Rattle.std.specs.Prelude.{Some, None, IfSome, IsSome, All, AllPairs, sum_by}
+use Rattle.std.specs.Prelude.{true, Some, None, IfSome, IsSome, All, AllPairs, sum_by}
 use Rattle.std.proofs.lemmas.Bool.{cases_eq, cases_lt}
 use Rattle.std.proofs.lemmas.List.Elements.{All-nil, All-cons, All-filter}
-use Rattle.std.proofs.lemmas.List.Elements.{All-weaker}
+use Rattle.std.proofs.lemmas.List.Elements.{All-weaker, filter_passes}
 use Rattle.std.proofs.lemmas.List.{drop_more}
 use Rattle.std.proofs.lemmas.List.Kept.{AllPairs-cons}
 use Rattle.std.proofs.lemmas.List.Sums.{sum_by-cons}
 use Rattle.ea_model.specs.Keyed.{entered, item_at, without, IsBelow}
 use Rattle.ea_model.specs.Region.{Laid, lowest_run, runs}
 use Rattle.ea_model.proofs.First.{first-All}
-use Rattle.ea_model.proofs.Options.{some_holds}
+use Rattle.ea_model.proofs.Options.{both_some, some_holds}
 use Rattle.ea_model.proofs.Pairs.{pairs_nil, pairs_tail}
 use Rattle.ea_model.proofs.Rising.{entered-map, entered_here, entered_past, item_at-each}
 use Rattle.ea_model.proofs.Rising.{item_here, item_past, others, without_here, without_none}
@@ -140,6 +140,17 @@ pub oldest-found : (i name : ℕ) (hs : List Held) → AllPairs (IsBelow start_o
 oldest-found i name hs rising =
     oldest-All (λ h. item_at start_of hs h.start ≡ Some h) i name hs
     (λ k d within. item_at-each start_of k d hs rising within)
+
+-- and it is one of the scheduler under the name
+pub oldest-own : (i name : ℕ) (hs : List Held) → AllPairs (IsBelow start_of) hs
+    → IfSome (oldest i name hs)
+    (λ h. (item_at start_of hs h.start ≡ Some h) × (is_of i name h ≡ true))
+oldest-own i name hs rising =
+    both_some (oldest i name hs) (λ h. item_at start_of hs h.start ≡ Some h)
+    (λ h. is_of i name h ≡ true) (λ h. (item_at start_of hs h.start ≡ Some h)
+    × (is_of i name h ≡ true)) (λ h found own. (found, own)) (oldest-found i name hs rising)
+    (first-All (λ h. is_of i name h ≡ true) is_earlier None (filter (is_of i name) hs) tt
+    (filter_passes (is_of i name) hs))
 
 pub oldest-there : (i name : ℕ) (h : Held) (hs : List Held) → AllPairs (IsBelow start_of) hs
     → oldest i name hs ≡ Some h → IsSome (item_at start_of hs h.start)

@@ -1,13 +1,11 @@
 -- What stands after legal histories.
-use Rattle.std.proofs.Common.{◌≡◌, ◌≢◌, ◌⊎◌, ℕ, ◌+◌, ◌<◌, ◌≤◌, List, []}
+use Rattle.std.proofs.Common.{◌≡◌, ◌⊎◌, ℕ, ◌+◌, ◌<◌, ◌≤◌, List, []}
 use Rattle.std.proofs.Common.{◌∷◌, ◌++◌, length, sym, ap, ◌∙◌, subst, refl, inl, inr, arith}
-use Rattle.std.proofs.Common.{◌==◌, if◌then◌else◌, fold}
-use Rattle.std.specs.Prelude.{Option, Some, None, sum_by, nat_le}
-use Rattle.std.proofs.lemmas.Bool.{cases_eq}
-use Rattle.std.proofs.lemmas.List.Sums.{fold-append, sum_by_push}
+use Rattle.std.proofs.Common.{◌==◌, ◌&&◌, if◌then◌else◌, fold}
+use Rattle.std.specs.Prelude.{Bool, true, IfSome, Option, Some, None, nat_le}
+use Rattle.std.proofs.lemmas.List.Sums.{fold-append, sum_by-cons}
 use Rattle.ea_model.specs.Keyed.{entered, item_at, without}
 use Rattle.ea_model.specs.Region.{Laid, lowest_run, runs}
-use Rattle.ea_model.proofs.Options.{some_holds}
 use Rattle.ea_model.proofs.Rising.{length-entered}
 use Rattle.ea_segments.specs.declared.calls.Call.{Call}
 use Rattle.ea_segments.specs.declared.calls.Reply.{Reply}
@@ -15,23 +13,17 @@ use Rattle.ea_segments.specs.declared.calls.Reply.TheVariants.{At, Done, Full, N
 use Rattle.ea_segments.specs.declared.calls.TheConstants.{MAX_SEGMENTS}
 use Rattle.ea_segments.specs.declared.held.Held.{Held}
 use Rattle.ea_segments.specs.Histories.{IsLegal, IsLegalFrom, IsSound, IsSoundThroughout}
-use Rattle.ea_segments.specs.Histories.{Standing, given_back, left_by}
+use Rattle.ea_segments.specs.Histories.{Standing, counted_for, given_back, given_under, gives}
+use Rattle.ea_segments.specs.Histories.{held_under, is_of, left_by, taken_under, takes}
 use Rattle.ea_segments.specs.Histories.{next, oldest, passed, reply_at, reply_to_back, reply_to_run}
 use Rattle.ea_segments.specs.Histories.{reply_to_take, segments, standing, stands, start, start_of}
-use Rattle.ea_segments.specs.Histories.{times}
 use Rattle.ea_segments.proofs.Holding.{laid-apart, laid-rising, laid-taken, laid-without}
-use Rattle.ea_segments.proofs.Holding.{length-without, oldest-found, sum-entered, sum-without}
-
--- how many of the segments were taken by the call with that number
-abbrev pub taken_at : ℕ → Held → ℕ
-taken_at turn h = if h.turn == turn then 1 else 0
+use Rattle.ea_segments.proofs.Holding.{length-without, oldest-own, sum-entered, sum-without}
 
 -- what is kept from call to call
 pub record IsKept (total : ℕ) (s : Standing) : Type 0 where
   pub laid : Laid 0 total (segments s.held)
   pub few : length s.held ≤ MAX_SEGMENTS
-  pub once : (turn : ℕ) → sum_by (taken_at turn) s.held + times turn s.back ≤ 1
-  pub later : (turn : ℕ) → s.calls ≤ turn → sum_by (taken_at turn) s.held + times turn s.back ≡ 0
 
 -- by the reply, what the call was and what it found
 
@@ -74,80 +66,52 @@ placed total at s c q =
       ]
     ]
 
+-- a call whose reply is that its segment went back gave back the oldest under its name
+no-run : (o : Option ℕ) → Done ≡ reply_to_run o → ⊥
+no-run None q = cc
+no-run (Some at) q = cc
+
+gave : (total : ℕ) (s : Standing) (c : Call) → Done ≡ reply_at total s c
+    → Done ≡ reply_to_back (oldest c.scheduler c.name s.held)
+gave total s c q =
+    let run = lowest_run c.pages (runs 0 total (segments s.held)) in
+    elim (kind-cases c.pages (reply_to_back (oldest c.scheduler c.name s.held))
+    (reply_to_take total c.pages s.held)) [
+      | inl b ↦ q ∙ b.1
+      | inr t ↦ elim (take-cases (length s.held) (reply_to_run run)) [
+        | inl full ↦ absurd (let never : Done ≡ Full = q ∙ t.1 ∙ full.1 in cc)
+        | inr free ↦ absurd (no-run run (q ∙ t.1 ∙ free.1))
+      ]
+    ]
+
 -- a call that changes nothing but the count
 kept-passed : (total : ℕ) (s : Standing) → IsKept total s → IsKept total (passed s)
-kept-passed total s k = record {
-  laid = k.laid;
-  few = k.few;
-  once = k.once;
-  later = λ turn le. k.later turn (omega (arith, le));
-}
+kept-passed total s k = record { laid = k.laid; few = k.few }
 
 -- one more segment
 kept-taken : (total : ℕ) (s : Standing) (x : Held) → IsKept total s
-    → IsPlaced total x.start x.pages s.held → x.turn ≡ s.calls
-    → IsKept total
-    (record { held = entered start_of x s.held; calls = s.calls + 1; back = s.back })
-kept-taken total s x k p turn = record {
+    → IsPlaced total x.start x.pages s.held
+    → IsKept total (record { held = entered start_of x s.held; calls = s.calls + 1 })
+kept-taken total s x k p = record {
   laid = laid-taken total x s.held k.laid p.found p.some;
   few = omega (arith, p.room, length-entered start_of x s.held);
-  once = λ t. elim (cases_eq x.turn t) [
-    | inl e ↦ omega (
-      arith,
-      sum-entered (taken_at t) x s.held,
-      one x t,
-      k.later t (omega (arith, turn, e)),
-    )
-    | inr n ↦ omega (arith, sum-entered (taken_at t) x s.held, none x t n, k.once t)
-  ];
-  later = λ t le. omega (
-    arith,
-    sum-entered (taken_at t) x s.held,
-    none x t (λ e. omega (arith, turn, e, le)),
-    k.later t (omega (arith, le)),
-  );
-} where
-  one : (h : Held) (t : ℕ) → taken_at t h ≤ 1
-  one h t = grind arith
-
-  none : (h : Held) (t : ℕ) → h.turn ≢ t → taken_at t h ≡ 0
-  none h t n = grind (arith, n)
+}
 
 -- one that goes back
 kept-back : (total : ℕ) (s : Standing) (o : Option Held) → IsKept total s
-    → ((h : Held) → o ≡ Some h → item_at start_of s.held h.start ≡ Some h)
     → IsKept total (given_back o s)
-kept-back total s None k found = kept-passed total s k
-kept-back total s (Some h) k found =
-    let there = found h refl in
-    let rising = laid-rising 0 total s.held k.laid in
-    record {
-      laid = laid-without 0 total h.start s.held k.laid;
-      few = omega (arith, k.few, length-without h.start s.held);
-      once = λ t. omega (
-        arith,
-        sum-without (taken_at t) h.start h s.held rising there,
-        sum_by_push (λ (m : ℕ). if m == t then 1 else 0) s.back h.turn,
-        k.once t,
-      );
-      later = λ t le. omega (
-        arith,
-        sum-without (taken_at t) h.start h s.held rising there,
-        sum_by_push (λ (m : ℕ). if m == t then 1 else 0) s.back h.turn,
-        k.later t (omega (arith, le)),
-      );
-    }
+kept-back total s None k = kept-passed total s k
+kept-back total s (Some h) k = record {
+  laid = laid-without 0 total h.start s.held k.laid;
+  few = omega (arith, k.few, length-without h.start s.held);
+}
 
 kept-left : (total : ℕ) (s : Standing) (c : Call) (r : Reply) → IsKept total s
     → r ≡ reply_at total s c → IsKept total (left_by r c s)
-kept-left total s c (At at) k q = kept-taken total s _ k (placed total at s c q) refl
+kept-left total s c (At at) k q = kept-taken total s _ k (placed total at s c q)
 kept-left total s c NoRun k q = kept-passed total s k
 kept-left total s c Full k q = kept-passed total s k
-kept-left total s c Done k q =
-    kept-back total s (oldest c.scheduler c.name s.held) k
-    (λ h is. some_holds (oldest c.scheduler c.name s.held) h
-    (λ x. item_at start_of s.held x.start ≡ Some x) is
-    (oldest-found c.scheduler c.name s.held (laid-rising 0 total s.held k.laid)))
+kept-left total s c Done k q = kept-back total s (oldest c.scheduler c.name s.held) k
 kept-left total s c Skipped k q = kept-passed total s k
 
 pub kept-from : (total : ℕ) (s : Standing) (cs : List Call) → IsKept total s
@@ -157,24 +121,93 @@ kept-from total s (c ∷ cs) k legal =
     kept-from total (next s c) cs (kept-left total s c c.reply k legal.0) legal.1
 
 kept-start : (total : ℕ) → IsKept total start
-kept-start total = record {
-  laid = omega arith;
-  few = omega arith;
-  once = λ turn. omega arith;
-  later = λ turn le. refl;
-}
+kept-start total = record { laid = omega arith; few = omega arith }
 
 pub kept : (total : ℕ) (cs : List Call) → IsLegal total cs → IsKept total (stands cs)
 kept total cs legal = kept-from total start cs (kept-start total) legal
 
-pub sound : (total : ℕ) (cs : List Call) → IsLegal total cs → IsSound total (stands cs)
+-- segments under a name, from call to call
+
+module _ (i name : ℕ) where
+  -- a call of the scheduler under the name
+  abbrev is_under : Call → Bool
+  is_under c = (c.scheduler == i) && (c.name == name)
+
+  -- with the reply r of a call as many are taken or went back as before, and one more if it took one
+  abbrev IsCounted : Standing → Call → Reply → Type 0
+  IsCounted s c r = held_under i name (left_by r c s).held + (if is_under c then gives r else 0)
+      ≡ held_under i name s.held + (if is_under c then takes r else 0)
+
+  abbrev one_if : Bool → ℕ
+  one_if b = if b then 1 else 0
+
+  abbrev none_if : Bool → ℕ
+  none_if b = if b then 0 else 0
+
+  no-reply : (b : Bool) → none_if b ≡ 0
+  no-reply b = grind arith
+
+  under-same : (h : Held) (c : Call) → is_of c.scheduler c.name h ≡ true
+      → one_if (is_of i name h) ≡ one_if (is_under c)
+  under-same h c is = grind (arith, is)
+
+  counted-back : (total : ℕ) (s : Standing) (c : Call) (o : Option Held) → IsKept total s
+      → Done ≡ reply_to_back o
+      → IfSome o (λ h. (item_at start_of s.held h.start ≡ Some h)
+      × (is_of c.scheduler c.name h ≡ true))
+      → held_under i name (given_back o s).held + one_if (is_under c)
+      ≡ held_under i name s.held + none_if (is_under c)
+  counted-back total s c None k q found = absurd cc
+  counted-back total s c (Some h) k q found = omega (
+    arith,
+    sum-without (λ x. if is_of i name x then 1 else 0) h.start h s.held
+        (laid-rising 0 total s.held k.laid) found.0,
+    under-same h c found.1,
+    no-reply (is_under c),
+  )
+
+  counted-left : (total : ℕ) (s : Standing) (c : Call) (r : Reply) → IsKept total s
+      → r ≡ reply_at total s c → IsCounted s c r
+  counted-left total s c (At at) k q = omega (
+    arith,
+    sum-entered (λ x. if is_of i name x then 1 else 0)
+        (record {
+          start = at;
+          pages = c.pages;
+          scheduler = c.scheduler;
+          name = c.name;
+          turn = s.calls;
+        }) s.held,
+    no-reply (is_under c),
+  )
+  counted-left total s c NoRun k q = refl
+  counted-left total s c Full k q = refl
+  counted-left total s c Done k q =
+      counted-back total s c (oldest c.scheduler c.name s.held) k (gave total s c q)
+      (oldest-own c.scheduler c.name s.held (laid-rising 0 total s.held k.laid))
+  counted-left total s c Skipped k q = refl
+
+  counted-from : (total : ℕ) (s : Standing) (cs : List Call) → IsKept total s
+      → IsLegalFrom total s cs
+      → held_under i name (fold next s cs).held + given_under i name cs
+      ≡ held_under i name s.held + taken_under i name cs
+  counted-from total s [] k legal = refl
+  counted-from total s (c ∷ cs) k legal = omega (
+    arith,
+    sum_by-cons (counted_for gives i name) c cs,
+    sum_by-cons (counted_for takes i name) c cs,
+    counted-left total s c c.reply k legal.0,
+    counted-from total (next s c) cs (kept-left total s c c.reply k legal.0) legal.1,
+  )
+
+pub sound : (total : ℕ) (cs : List Call) → IsLegal total cs → IsSound total cs
 sound total cs legal =
     let k = kept total cs legal in
     record {
       laid = k.laid;
       apart = laid-apart 0 total (stands cs).held k.laid;
       few = k.few;
-      once = λ turn. omega (arith, k.once turn);
+      once = λ i name. omega (arith, counted-from i name total start cs (kept-start total) legal);
     }
 
 -- a front of a legal history is legal, and so is one with one more call that got its reply

@@ -34,29 +34,24 @@ is_earlier a b = nat_lt a.turn b.turn
 abbrev pub oldest : ℕ → ℕ → List Held → Option Held
 oldest i name hs = first is_earlier (filter (is_of i name) hs)
 
--- what stands after some calls: the segments that are taken, by rising start; how many calls there
--- were; and of each segment that went back how many calls came before the one that took it
+-- what stands after some calls: the segments that are taken, by rising start, and how many calls
+-- there were
 pub record Standing : Type 0 where
   pub held : List Held
   pub calls : ℕ
-  pub back : List ℕ
 
 abbrev pub standing : List Held → ℕ → Standing
-standing hs calls = record { held = hs; calls = calls; back = [] }
+standing hs calls = record { held = hs; calls = calls }
 
 abbrev pub start : Standing
 start = standing [] 0
 
 abbrev pub passed : Standing → Standing
-passed s = record { held = s.held; calls = s.calls + 1; back = s.back }
+passed s = record { held = s.held; calls = s.calls + 1 }
 
 abbrev pub given_back : Option Held → Standing → Standing
 given_back None s = passed s
-given_back (Some h) s = record {
-  held = without start_of h.start s.held;
-  calls = s.calls + 1;
-  back = s.back ++ h.turn ∷ [];
-}
+given_back (Some h) s = record { held = without start_of h.start s.held; calls = s.calls + 1 }
 
 -- what the call leaves, by its reply
 abbrev pub left_by : Reply → Call → Standing → Standing
@@ -69,7 +64,6 @@ left_by (At at) c s = record {
     turn = s.calls;
   }) s.held;
   calls = s.calls + 1;
-  back = s.back;
 }
 left_by NoRun c s = passed s
 left_by Full c s = passed s
@@ -119,27 +113,56 @@ calls_of i cs = filter (λ c. c.scheduler == i) cs
 abbrev pub IsByOneOf : ℕ → Call → Type 0
 IsByOneOf n c = (1 ≤ c.scheduler) × (c.scheduler ≤ n)
 
--- how often a number is among these
-abbrev pub times : ℕ → List ℕ → ℕ
-times n ns = sum_by (λ m. if m == n then 1 else 0) ns
+-- 1 for the reply to a call that took a segment, or that gave one back
+
+abbrev pub takes : Reply → ℕ
+takes (At at) = 1
+takes NoRun = 0
+takes Full = 0
+takes Done = 0
+takes Skipped = 0
+
+abbrev pub gives : Reply → ℕ
+gives (At at) = 0
+gives NoRun = 0
+gives Full = 0
+gives Done = 1
+gives Skipped = 0
+
+-- what a reply counts, where the call is of scheduler i under that name
+abbrev pub counted_for : (Reply → ℕ) → ℕ → ℕ → Call → ℕ
+counted_for of i name c = if (c.scheduler == i) && (c.name == name) then of c.reply else 0
+
+-- how many segments scheduler i took under that name, and how many it gave back, by the replies
+
+abbrev pub taken_under : ℕ → ℕ → List Call → ℕ
+taken_under i name cs = sum_by (counted_for takes i name) cs
+
+abbrev pub given_under : ℕ → ℕ → List Call → ℕ
+given_under i name cs = sum_by (counted_for gives i name) cs
+
+-- how many of these segments scheduler i took under that name
+abbrev pub held_under : ℕ → ℕ → List Held → ℕ
+held_under i name hs = sum_by (λ h. if is_of i name h then 1 else 0) hs
 
 -- two segments have no page in common
 abbrev pub HeldApart : Held → Held → Type 0
 HeldApart a b = AreApart a.start a.pages b.start b.pages
 
--- the taken segments lie in the region, one after another, and there are no more than there may be;
--- each segment went back once at most
-pub record IsSound (total : ℕ) (s : Standing) : Type 0 where
-  pub laid : Laid 0 total (segments s.held)
-  pub apart : AllPairs HeldApart s.held
-  pub few : length s.held ≤ MAX_SEGMENTS
-  pub once : (turn : ℕ) → times turn s.back ≤ 1
+-- after these calls the taken segments lie in the region, one after another, and there are no more
+-- than there may be. Each segment that was taken is still taken or went back, once: so many were
+-- taken under each name as are taken now and went back together
+pub record IsSound (total : ℕ) (cs : List Call) : Type 0 where
+  pub laid : Laid 0 total (segments (stands cs).held)
+  pub apart : AllPairs HeldApart (stands cs).held
+  pub few : length (stands cs).held ≤ MAX_SEGMENTS
+  pub once : (i name : ℕ)
+      → held_under i name (stands cs).held + given_under i name cs ≡ taken_under i name cs
 
 -- the history begins with those calls
 abbrev pub StartsWith : List Call → List Call → Type 0
 StartsWith log front = (rest : List Call) × (log ≡ front ++ rest)
 
--- at each point of the history what stands there is sound
+-- each front of the history is sound
 abbrev pub IsSoundThroughout : ℕ → List Call → Type 0
-IsSoundThroughout total log = (front rest : List Call) → log ≡ front ++ rest
-    → IsSound total (stands front)
+IsSoundThroughout total log = (front rest : List Call) → log ≡ front ++ rest → IsSound total front

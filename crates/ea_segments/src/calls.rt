@@ -7,6 +7,11 @@ use ea_model::List;
 /// The most segments that are taken at once.
 pub const MAX_SEGMENTS: u32 = 1024;
 
+/// The value of the constant, so that another is refused.
+pub fn constants()
+    ensures segments { MAX_SEGMENTS ≡ 1024 }
+{}
+
 /// What a call asks for. Names are the callers' own; the segments of a name are those of a
 /// scheduler.
 #[derive(Debug, Clone, Copy, PartialEq, Eq)]

@@ -19,7 +19,7 @@ mod playing;
 mod rule;
 mod views;
 
-pub use calls::{Book, Call, Reply, Request};
+pub use calls::{Book, Call, Reply, Request, constants};
 pub use closing::close;
 pub use desk::Desk;
 pub use making::{Start, make_passes};
