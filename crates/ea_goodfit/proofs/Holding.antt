@@ -3,8 +3,8 @@ use Rattle.std.proofs.Common.{◌≡◌, ◌≢◌, ℕ, ◌+◌, ◌-◌, ◌^�
 use Rattle.std.proofs.Common.{get_or, set}
 use Rattle.std.proofs.Common.{map, sym, ap, ◌∙◌, subst, inl, inr, arith}
 use Rattle.std.specs.Prelude.{Option, Some, None, option_map, All, AllPairs, Contains, IfSome}
-use Rattle.std.specs.Prelude.{IsTrue}
-use Rattle.std.proofs.Math.Seq.{set-append_seam}
+use Rattle.std.specs.Prelude.{IsNone, IsTrue}
+use Rattle.std.proofs.Math.Seq.{get_or-append_seam, set-append_seam}
 use Rattle.std.proofs.lemmas.Bool.{cases_eq}
 use Rattle.std.proofs.lemmas.List.{get_or_default, get_or-set_other, get_or-set_same}
 use Rattle.std.proofs.lemmas.List.{get_or_append_left}
@@ -56,6 +56,10 @@ module _ (R : ℕ → ℕ → Type 0) where
 
 none_is_not_some : {A : Type 0} (o : Option A) (x : A) → o ≡ None → o ≢ Some x
 none_is_not_some o x e f = absurd cc
+
+some_is_not_none : (o : Option BinnedGap) (g : BinnedGap) → IsNone o → o ≡ Some g → ⊥
+some_is_not_none None g n e = absurd cc
+some_is_not_none (Some x) g n e = absurd cc
 
 -- the fields of a view
 pub view-same : (fit next : Fit) (held rest : List BinnedGap) (room left : ℕ) → fit ≡ next
@@ -123,10 +127,49 @@ module _ (fit : Fit) (reserved : ℕ) (t : KeysHeld) (gs : List (Option BinnedGa
   key_within p within = omega
       (arith, ap length h.keys, length-map gs (option_map (key_of fit)), within)
 
+  no_key : (p : ℕ) → get_or gs p None ≡ None → get_or t.keys p None ≡ None
+  no_key p empty = ap (λ ks. get_or ks p None) h.keys ∙ at-keyed (key_of fit) gs p
+      ∙ ap (option_map (key_of fit)) empty
+
+  keys-length : length t.keys ≡ length gs
+  keys-length = ap length h.keys ∙ length-map gs (option_map (key_of fit))
+
+  -- the last free position, which is there and has no key
+  pub last_free : (p : ℕ) (fs : List ℕ) → free ≡ fs ++ p ∷ []
+      → (p < length gs) × (p < length t.keys) × (get_or t.keys p None ≡ None)
+  last_free p fs ends =
+      let within : p < length gs = of_last (λ q. q < length gs) fs p
+      (subst (All (λ q. q < length gs)) ends h.within) in (
+        within,
+        omega (arith, keys-length, within),
+        no_key p (of_last (λ q. get_or gs q None ≡ None) fs p
+            (subst (All (λ q. get_or gs q None ≡ None)) ends h.empty)),
+      )
+
+  -- a new position is there and has no key
+  pub new_free : (p : ℕ) (ks : List (Option ℕ)) → ks ≡ t.keys ++ None ∷ [] → p ≡ length gs
+      → (p < length ks) × (get_or ks p None ≡ None)
+  new_free p ks more at =
+      let is : p ≡ length t.keys = at ∙ sym keys-length in
+      let none : Option ℕ = None in (
+        omega (arith, is, ap length more, length_push t.keys none),
+        ap (λ xs. get_or xs p None) more
+            ∙ ap (λ q. get_or (t.keys ++ None ∷ []) q None) is
+            ∙ get_or-append_seam t.keys None [] None,
+      )
+
   key_at : (p : ℕ) (g : BinnedGap) → get_or gs p None ≡ Some g
       → get_or t.keys p None ≡ Some (key_of fit g)
   key_at p g there = ap (λ ks. get_or ks p None) h.keys ∙ at-keyed (key_of fit) gs p
       ∙ ap (option_map (key_of fit)) there
+
+  -- where a key was found, its position has a gap
+  pub next_some : (bound : ℕ) (f : Found) (o : Option BinnedGap) → IsFirstFrom bound t.keys f
+      → o ≡ get_or gs f.position o → IsNone o → ⊥
+  next_some bound f o first at none =
+      let g = gap_at f.position f.key first.held in
+      some_is_not_none o g.0 none
+      (at ∙ get_or_default gs f.position o None (key_within f.position first.within) ∙ g.1)
 
   -- the gap of the least of the keys from the bound on
   pub next_gap : (bound : ℕ) (f : Found) (o : Option BinnedGap) → IsFirstFrom bound t.keys f
@@ -168,12 +211,9 @@ module _ (fit : Fit) (reserved : ℕ) (t : KeysHeld) (gs : List (Option BinnedGa
       (bounded : g.address < 2 ^ 32) (new : All (λ x. x.address ≢ g.address) (by_address gs))
       (u : KeysHeld) (n : ℕ) (is : n ≡ key_of fit g)
       (keyed : u ≡ record { width = t.width; keys = set t.keys p (Some n); room = t.room }) where
-    last_within : p < length gs
-    last_within = of_last (λ q. q < length gs) fs p (subst (All (λ q. q < length gs)) ends h.within)
-
     pub put-held : by_address (set gs p (Some g)) ≡ entered address_of g (by_address gs)
     put-held =
-        by_address-put gs p g last_within
+        by_address-put gs p g (last_free p fs ends).0
         (of_last (λ q. get_or gs q None ≡ None) fs p
         (subst (All (λ q. get_or gs q None ≡ None)) ends h.empty)) new
 

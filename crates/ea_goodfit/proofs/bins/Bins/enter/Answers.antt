@@ -1,12 +1,12 @@
 use Rattle.std.proofs.Common.{◌≡◌, ◌≢◌, ◌+◌, ◌^◌, ◌<◌, sym, ap, ◌∙◌, append-nil, subst, refl, arith}
-use Rattle.std.specs.Prelude.{All, Some}
+use Rattle.std.specs.Prelude.{All, AllPairs, Some}
 use Rattle.ea_model.specs.Keyed.{entered}
 use Rattle.ea_goodfit.specs.declared.gaps.BinnedGap.{BinnedGap}
 use Rattle.ea_goodfit.specs.declared.fits.Fit.TheVariants.{Good}
-use Rattle.ea_goodfit.specs.Gaps.{address_of, HeldGaps}
+use Rattle.ea_goodfit.specs.Gaps.{address_of, HeldGaps, IsBelow}
 use Rattle.ea_goodfit.specs.Keys.{by_address}
 use Rattle.ea_goodfit.proofs.Holding.{AreHeld-same, new_key, new_key_more, put-held, put-AreHeld}
-use Rattle.ea_goodfit.proofs.Holding.{more-AreHeld, view-same}
+use Rattle.ea_goodfit.proofs.Holding.{last_free, more-AreHeld, new_free, view-same}
 use Rattle.ea_goodfit.proofs.Positioned.{by_address-more}
 use Rattle.ea_goodfit.proofs.bins.Bins.enter.Goals as goal
 
@@ -18,6 +18,14 @@ fits : (v w : HeldGaps) (g : BinnedGap) → v ≡ w → (w.fit ≢ Good → g.si
     → v.fit ≢ Good → g.size + 1 < 2 ^ 32
 fits v w g e f = subst (λ (s : HeldGaps). s.fit ≢ Good → g.size + 1 < 2 ^ 32) (sym e) f
 
+pub insert-requires-clause-within : goal.insert-requires-clause-within
+insert-requires-clause-within c =
+    (last_free _ _ _ _ _ _ _ c.self.invariant _ c.pop.new.self.items c.in-Some.ensures.items).1
+
+pub insert-requires-clause-free : goal.insert-requires-clause-free
+insert-requires-clause-free c =
+    (last_free _ _ _ _ _ _ _ c.self.invariant _ c.pop.new.self.items c.in-Some.ensures.items).2
+
 pub insert-requires-clause-key : goal.insert-requires-clause-key
 insert-requires-clause-key c = subst (λ n. c.key-key.result < n) (sym c.self.invariant.width)
     (c.key-key.ensures.within (fits _ _ c.args.gap c.self.view_is c.requires.size))
@@ -27,6 +35,11 @@ insert-requires-clause-new c =
     subst (λ n. All (λ o. o ≢ Some n) c.self.inside.tree.keys) (sym c.key-key.ensures.key)
     (new_key _ _ _ _ _ _ _ c.self.invariant c.args.gap c.key-key.ensures.bounded
     (new _ _ c.args.gap c.self.view_is c.requires.address))
+
+pub index_mut-requires : goal.index_mut-requires
+index_mut-requires c =
+    let free = last_free _ _ _ _ _ _ _ c.self.invariant _ c.pop.new.self.items
+    c.in-Some.ensures.items in omega (arith, free.0)
 
 pub invariant_of-self : goal.invariant_of-self
 invariant_of-self c =
@@ -45,6 +58,23 @@ returns-in-Some-clause-held c =
     c.key-key.ensures.key c.insert.ensures
     ∙ ap (λ (s : HeldGaps). entered address_of c.args.gap s.held) c.self.view_is)
     (omega (arith, c.in-Some.ensures.len, ap (λ (s : HeldGaps). s.room) c.self.view_is))
+
+pub returns-in-Some-clause-rising : goal.returns-in-Some-clause-rising
+returns-in-Some-clause-rising c = subst (λ (s : HeldGaps). AllPairs IsBelow s.held)
+    c.self.view_is c.self.invariant.rising
+
+pub overflow_cast-position-2 : goal.overflow_cast-position-2
+overflow_cast-position-2 c = omega (arith, c.self.invariant.few, c.len-position.ensures)
+
+pub insert-requires-2-clause-within : goal.insert-requires-2-clause-within
+insert-requires-2-clause-within c =
+    (new_free _ _ _ _ _ _ _ c.self.invariant _ c.push.new.self.keys c.push.ensures.keys
+    (omega (arith, c.len-position.ensures))).0
+
+pub insert-requires-2-clause-free : goal.insert-requires-2-clause-free
+insert-requires-2-clause-free c =
+    (new_free _ _ _ _ _ _ _ c.self.invariant _ c.push.new.self.keys c.push.ensures.keys
+    (omega (arith, c.len-position.ensures))).1
 
 pub insert-requires-2-clause-key : goal.insert-requires-2-clause-key
 insert-requires-2-clause-key c =
@@ -86,3 +116,7 @@ returns-clause-held c =
       c.in_default.ensures.cases.0,
       ap (λ (s : HeldGaps). s.room) c.self.view_is,
     ))
+
+pub returns-clause-rising : goal.returns-clause-rising
+returns-clause-rising c = subst (λ (s : HeldGaps). AllPairs IsBelow s.held)
+    c.self.view_is c.self.invariant.rising
