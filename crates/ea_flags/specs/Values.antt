@@ -23,6 +23,16 @@ use Rattle.ea_flags.specs.declared.setting.ValueFault.TheVariants.{Bad, Unsuppor
 use Rattle.ea_flags.specs.declared.value.TheConstants.{DEFAULT_ACUL, LEAST_ACNL, MAX_ACNL}
 use Rattle.ea_flags.specs.declared.value.TheConstants.{MAX_KILOBYTES}
 
+-- the strategy of this name, by the age of carriers, by good fit or by a fit
+abbrev pub other_strategy : List ℕ → Option Strategy
+other_strategy name =
+    if bytes_eq name (codes "ageffcaoff") then Some AgeffCaoff
+    else if bytes_eq name (codes "ageffcbf") then Some AgeffCbf
+    else if bytes_eq name (codes "ageffcaobf") then Some AgeffCaobf
+    else if bytes_eq name (codes "gf") then Some Gf
+    else if bytes_eq name (codes "af") then Some Af
+    else None
+
 -- the strategy of this name
 abbrev pub strategy_named : List ℕ → Option Strategy
 strategy_named name =
@@ -31,12 +41,7 @@ strategy_named name =
     else if bytes_eq name (codes "aoff") then Some Aoff
     else if bytes_eq name (codes "aoffcbf") then Some AoffCbf
     else if bytes_eq name (codes "aoffcaobf") then Some AoffCaobf
-    else if bytes_eq name (codes "ageffcaoff") then Some AgeffCaoff
-    else if bytes_eq name (codes "ageffcbf") then Some AgeffCbf
-    else if bytes_eq name (codes "ageffcaobf") then Some AgeffCaobf
-    else if bytes_eq name (codes "gf") then Some Gf
-    else if bytes_eq name (codes "af") then Some Af
-    else None
+    else other_strategy name
 
 -- a value of the flag
 abbrev pub good : {A : Type 0} → Option A → Result A ValueFault

@@ -32,6 +32,34 @@ scope_of code =
     else if code == 117 then Some All
     else None
 
+-- the parameter of this name, if its value is true or false
+abbrev pub switch_parameter : List ℕ → Option Parameter
+switch_parameter name =
+    if bytes_eq name (codes "ramv") then Some Ramv
+    else if bytes_eq name (codes "t") then Some ThreadSafe
+    else if bytes_eq name (codes "e") then Some Enabled
+    else None
+
+-- the parameter of this name, if its value is a count, a percentage, or true or false
+abbrev pub limit_parameter : List ℕ → Option Parameter
+limit_parameter name =
+    if bytes_eq name (codes "mbcgs") then Some Mbcgs
+    else if bytes_eq name (codes "mbsd") then Some Mbsd
+    else if bytes_eq name (codes "rsbcmt") then Some Rsbcmt
+    else if bytes_eq name (codes "rmbcmt") then Some Rmbcmt
+    else if bytes_eq name (codes "rsbcst") then Some Rsbcst
+    else switch_parameter name
+
+-- the parameter of this name, unless it is the strategy or a limit on abandoned carriers
+abbrev pub size_parameter : List ℕ → Option Parameter
+size_parameter name =
+    if bytes_eq name (codes "sbct") then Some Sbct
+    else if bytes_eq name (codes "smbcs") then Some Smbcs
+    else if bytes_eq name (codes "lmbcs") then Some Lmbcs
+    else if bytes_eq name (codes "mmbcs") then Some Mmbcs
+    else if bytes_eq name (codes "asbcst") then Some Asbcst
+    else limit_parameter name
+
 -- the parameter of this name
 abbrev pub parameter_of : List ℕ → Option Parameter
 parameter_of name =
@@ -39,20 +67,7 @@ parameter_of name =
     else if bytes_eq name (codes "acul") then Some Acul
     else if bytes_eq name (codes "acfml") then Some Acfml
     else if bytes_eq name (codes "acnl") then Some Acnl
-    else if bytes_eq name (codes "sbct") then Some Sbct
-    else if bytes_eq name (codes "smbcs") then Some Smbcs
-    else if bytes_eq name (codes "lmbcs") then Some Lmbcs
-    else if bytes_eq name (codes "mmbcs") then Some Mmbcs
-    else if bytes_eq name (codes "asbcst") then Some Asbcst
-    else if bytes_eq name (codes "mbcgs") then Some Mbcgs
-    else if bytes_eq name (codes "mbsd") then Some Mbsd
-    else if bytes_eq name (codes "rsbcmt") then Some Rsbcmt
-    else if bytes_eq name (codes "rmbcmt") then Some Rmbcmt
-    else if bytes_eq name (codes "rsbcst") then Some Rsbcst
-    else if bytes_eq name (codes "ramv") then Some Ramv
-    else if bytes_eq name (codes "t") then Some ThreadSafe
-    else if bytes_eq name (codes "e") then Some Enabled
-    else None
+    else size_parameter name
 
 -- a parameter of the runtime that isn't simulated
 abbrev pub is_other_parameter : List ℕ → Bool

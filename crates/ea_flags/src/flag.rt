@@ -1,19 +1,20 @@
 //! The flags, and the words that they are.
 ghost use Rattle.std.specs.Prelude.{◌≡◌};
 ghost use Rattle.ea_flags.specs.Words.{flag_of, flag_for, parameter_flag, parameter_of, scope_of};
+ghost use Rattle.ea_flags.specs.Words.{size_parameter, limit_parameter, switch_parameter};
 ghost use Rattle.ea_flags.specs.Words.{is_other_flag, is_other_parameter};
 
 use ea_model::Letter;
 
 /// The allocators that a flag speaks of.
-#[derive(Debug, Clone, Copy, PartialEq, Eq)]
+#[derive(Clone, Copy)]
 pub enum Scope {
     One(Letter),
     All,
 }
 
 /// A parameter of an allocator, under the name of its flag.
-#[derive(Debug, Clone, Copy, PartialEq, Eq)]
+#[derive(Clone, Copy)]
 pub enum Parameter {
     /// Allocation strategy.
     As,
@@ -52,7 +53,7 @@ pub enum Parameter {
 }
 
 /// A flag.
-#[derive(Debug, Clone, Copy, PartialEq, Eq)]
+#[derive(Clone, Copy)]
 pub enum Flag {
     /// The number of schedulers.
     Schedulers,
@@ -83,6 +84,60 @@ fn read_scope(code: u8) -> Option<Scope>
     }
 }
 
+/// The parameter of this name, if its value is true or false.
+fn switch_parameter(name: &[u8]) -> Option<Parameter>
+    ensures { result ≡ switch_parameter name.now }
+{
+    if name == b"ramv".as_slice() {
+        Some(Parameter::Ramv)
+    } else if name == b"t".as_slice() {
+        Some(Parameter::ThreadSafe)
+    } else if name == b"e".as_slice() {
+        Some(Parameter::Enabled)
+    } else {
+        None
+    }
+}
+
+/// The parameter of this name, if its value is a count, a percentage, or true or false.
+fn limit_parameter(name: &[u8]) -> Option<Parameter>
+    ensures { result ≡ limit_parameter name.now }
+{
+    if name == b"mbcgs".as_slice() {
+        Some(Parameter::Mbcgs)
+    } else if name == b"mbsd".as_slice() {
+        Some(Parameter::Mbsd)
+    } else if name == b"rsbcmt".as_slice() {
+        Some(Parameter::Rsbcmt)
+    } else if name == b"rmbcmt".as_slice() {
+        Some(Parameter::Rmbcmt)
+    } else if name == b"rsbcst".as_slice() {
+        Some(Parameter::Rsbcst)
+    } else {
+        switch_parameter(name)
+    }
+}
+
+/// The parameter of this name, unless it is the strategy or a limit on abandoned carriers.
+fn size_parameter(name: &[u8]) -> Option<Parameter>
+    ensures { result ≡ size_parameter name.now }
+{
+    if name == b"sbct".as_slice() {
+        Some(Parameter::Sbct)
+    } else if name == b"smbcs".as_slice() {
+        Some(Parameter::Smbcs)
+    } else if name == b"lmbcs".as_slice() {
+        Some(Parameter::Lmbcs)
+    } else if name == b"mmbcs".as_slice() {
+        Some(Parameter::Mmbcs)
+    } else if name == b"asbcst".as_slice() {
+        Some(Parameter::Asbcst)
+    } else {
+        limit_parameter(name)
+    }
+}
+
+/// The parameter of this name.
 fn read_parameter(name: &[u8]) -> Option<Parameter>
     ensures { result ≡ parameter_of name.now }
 {
@@ -94,34 +149,8 @@ fn read_parameter(name: &[u8]) -> Option<Parameter>
         Some(Parameter::Acfml)
     } else if name == b"acnl".as_slice() {
         Some(Parameter::Acnl)
-    } else if name == b"sbct".as_slice() {
-        Some(Parameter::Sbct)
-    } else if name == b"smbcs".as_slice() {
-        Some(Parameter::Smbcs)
-    } else if name == b"lmbcs".as_slice() {
-        Some(Parameter::Lmbcs)
-    } else if name == b"mmbcs".as_slice() {
-        Some(Parameter::Mmbcs)
-    } else if name == b"asbcst".as_slice() {
-        Some(Parameter::Asbcst)
-    } else if name == b"mbcgs".as_slice() {
-        Some(Parameter::Mbcgs)
-    } else if name == b"mbsd".as_slice() {
-        Some(Parameter::Mbsd)
-    } else if name == b"rsbcmt".as_slice() {
-        Some(Parameter::Rsbcmt)
-    } else if name == b"rmbcmt".as_slice() {
-        Some(Parameter::Rmbcmt)
-    } else if name == b"rsbcst".as_slice() {
-        Some(Parameter::Rsbcst)
-    } else if name == b"ramv".as_slice() {
-        Some(Parameter::Ramv)
-    } else if name == b"t".as_slice() {
-        Some(Parameter::ThreadSafe)
-    } else if name == b"e".as_slice() {
-        Some(Parameter::Enabled)
     } else {
-        None
+        size_parameter(name)
     }
 }
 

@@ -3,7 +3,7 @@ use crate::flag::Scope;
 use ea_model::Strategy;
 
 /// A change of one allocator's settings, under the name of its flag. Sizes are in units.
-#[derive(Debug, Clone, Copy, PartialEq, Eq)]
+#[derive(Clone, Copy)]
 pub enum Change {
     As(Strategy),
     Acul(u32),
@@ -24,7 +24,7 @@ pub enum Change {
 }
 
 /// What a flag with its value sets.
-#[derive(Debug, Clone, Copy, PartialEq, Eq)]
+#[derive(Clone, Copy)]
 pub enum Setting {
     /// The number of schedulers.
     Schedulers(u32),
@@ -37,7 +37,7 @@ pub enum Setting {
 }
 
 /// Why a value is refused.
-#[derive(Debug, Clone, Copy, PartialEq, Eq)]
+#[derive(Clone, Copy)]
 pub enum ValueFault {
     /// It is no value of its flag.
     Bad,

@@ -20,6 +20,25 @@ pub const MAX_ACNL: u32 = 4_294_967_295;
 /// The most kilobytes of a size.
 pub const MAX_KILOBYTES: u32 = 524_288;
 
+/// The strategy of this name, by the age of carriers, by good fit or by a fit.
+fn other_strategy(name: &[u8]) -> Option<Strategy>
+    ensures { result ≡ values.other_strategy name.now }
+{
+    if name == b"ageffcaoff".as_slice() {
+        Some(Strategy::AgeffCaoff)
+    } else if name == b"ageffcbf".as_slice() {
+        Some(Strategy::AgeffCbf)
+    } else if name == b"ageffcaobf".as_slice() {
+        Some(Strategy::AgeffCaobf)
+    } else if name == b"gf".as_slice() {
+        Some(Strategy::Gf)
+    } else if name == b"af".as_slice() {
+        Some(Strategy::Af)
+    } else {
+        None
+    }
+}
+
 /// The strategy of this name.
 fn strategy(name: &[u8]) -> Option<Strategy>
     ensures { result ≡ strategy_named name.now }
@@ -34,18 +53,8 @@ fn strategy(name: &[u8]) -> Option<Strategy>
         Some(Strategy::AoffCbf)
     } else if name == b"aoffcaobf".as_slice() {
         Some(Strategy::AoffCaobf)
-    } else if name == b"ageffcaoff".as_slice() {
-        Some(Strategy::AgeffCaoff)
-    } else if name == b"ageffcbf".as_slice() {
-        Some(Strategy::AgeffCbf)
-    } else if name == b"ageffcaobf".as_slice() {
-        Some(Strategy::AgeffCaobf)
-    } else if name == b"gf".as_slice() {
-        Some(Strategy::Gf)
-    } else if name == b"af".as_slice() {
-        Some(Strategy::Af)
     } else {
-        None
+        other_strategy(name)
     }
 }
 
