@@ -1,8 +1,8 @@
 -- Calls that follow each other.
-use Rattle.std.proofs.Common.{◌≡◌, ℕ, List, [], ◌∷◌, Option, sym, subst}
+use Rattle.std.proofs.Common.{ℕ, List, [], ◌∷◌, Option, sym, subst}
 use Rattle.std.specs.Prelude.{Result, Ok, Err, OnErr}
-use Rattle.ea_io.specs.Calls.{ByCalls, HasWritten, OnlyReads, OnlyWrites, Reads, StopsWriting}
-use Rattle.ea_io.specs.Calls.{Writes}
+use Rattle.ea_io.specs.Calls.{ByCalls, HasWritten, OnlyReads, OnlyWrites, Reads, StopsReading}
+use Rattle.ea_io.specs.Calls.{StopsWriting, Writes}
 use Rattle.ea_io.specs.declared.ends.Failed.{Failed}
 
 -- what holds holds of an answer
@@ -24,6 +24,17 @@ module _ {S : Type 0} (left : S → Option (List ℕ)) (faults : S → ℕ) wher
       → Reads {E = Failed} (left b) (left c) (faults b) (faults c) (Ok n) buf
       → OnlyReads left faults a c
   and-read a b c n buf before read = (b ∷ before.0, (before.1, (n, (buf, read))))
+
+  -- reads, and then one that fails
+  pub read-fails : (a b c : S) (fault : Failed) (buf : List ℕ) → OnlyReads left faults a b
+      → Reads (left b) (left c) (faults b) (faults c) (Err fault) buf
+      → StopsReading left faults a c
+  read-fails a b c fault buf before failed = record {
+    passed = before.0;
+    before = b;
+    calls = before.1;
+    fault = (fault, (buf, failed));
+  }
 
 module _ {O : Type 0} (taken : O → Option (List ℕ)) (faults : O → ℕ) where
   -- writes, and then one more

@@ -1,9 +1,12 @@
 -- Lists of bytes that were cut.
 use Rattle.std.proofs.Common.{◌≡◌, ℕ, ◌+◌, ◌-◌, ◌<◌, List, ◌++◌, length, take, drop, get_or, Bor}
-use Rattle.std.proofs.Common.{sym, ap, ◌∙◌, take-append-drop, append_assoc}
+use Rattle.std.proofs.Common.{[], Option, append-nil, subst, sym, ap, ◌∙◌, take-append-drop}
+use Rattle.std.proofs.Common.{append_assoc}
 use Rattle.std.proofs.lemmas.List.{take_rest, drop_more}
 use Rattle.std.proofs.lemmas.List.Concat.{flat_map-cons}
 use Rattle.std.specs.List.{flat_map}
+use Rattle.std.specs.Io.KnownBytes.{Consumes}
+use Rattle.std.proofs.KnownBytes.{Consumes-trans}
 
 -- a write took n bytes of the rest
 pub moves_front : (all done rest : List ℕ) (n : ℕ) → all ≡ done ++ rest
@@ -36,3 +39,9 @@ next_text texts i d piece h e =
     ap (flat_map (λ t. t.now)) (drop_more texts i d h)
     ∙ flat_map-cons (λ t. t.now) (get_or texts i d) (drop (i + 1) texts)
     ∙ ap (λ l. l ++ flat_map (λ t. t.now) (drop (i + 1) texts)) (sym e)
+
+-- a read that gave no byte took none
+pub consumes_none : (a b c : Option (List ℕ)) (bytes buf : List ℕ) (n : ℕ) → n ≡ 0
+    → Consumes a b bytes → Consumes b c (take n buf) → Consumes a c bytes
+consumes_none a b c bytes buf n e p q = subst (Consumes a c) (append-nil bytes)
+    (Consumes-trans a b c bytes [] p (subst (λ k. Consumes b c (take k buf)) e q))
