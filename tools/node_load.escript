@@ -1,7 +1,7 @@
 #!/usr/bin/env escript
 %% -*- erlang -*-
 %% Writes what a live node tells of the blocks and carriers of one allocator, for tools/load:
-%% see --help, and docs/LOADS.md.
+%% see --help, and docs/guide.md.
 -mode(compile).
 
 %% The most intervals that instrument takes.

@@ -304,9 +304,9 @@ class Compare(unittest.TestCase):
 
     def test_lists_that_differ_in_strategy_with_several_schedulers(self):
         trace, words = self.file("a.trace", two(["idle"], ["idle"])), ["--all", "+S 2", "--each"]
-        self.assertIn("DEPARTURES", self.compare(trace, *words, "+MHas bf gf")[1])
-        self.assertNotIn("DEPARTURES", self.compare(trace, *words, "+MHsbct 1 2")[1])
-        self.assertNotIn("DEPARTURES", self.compare(self.file("b.trace", one()), "--each", "+MHas bf gf")[1])
+        self.assertIn("differences", self.compare(trace, *words, "+MHas bf gf")[1])
+        self.assertNotIn("differences", self.compare(trace, *words, "+MHsbct 1 2")[1])
+        self.assertNotIn("differences", self.compare(self.file("b.trace", one()), "--each", "+MHas bf gf")[1])
 
     def test_marks(self):
         trace = self.file("a.trace", one("alloc 1 300000", "alloc 2 300000", "# mark peak", "free 1", "# mark half", "free 2"))
