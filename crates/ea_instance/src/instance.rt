@@ -53,7 +53,6 @@ use std::marker::Model;
 /// owns, the contents of multiblock and of singleblock carriers that it employs, each by rising
 /// number, and how many carriers it created. Beside these it keeps carriers that were deallocated,
 /// of which the next ones can be made.
-#[derive(Drop)]
 pub struct Instance {
     settings: Settings,
     number: u32,
@@ -62,6 +61,17 @@ pub struct Instance {
     singles: Singles,
     created: u32,
     pub(crate) spare: Spare,
+}
+
+// Written out, as Held's is.
+impl Drop for Instance {
+    fn drop(self) {
+        let Instance { own, carriers, singles, spare, .. } = self;
+        drop(own);
+        drop(carriers);
+        drop(singles);
+        drop(spare);
+    }
 }
 
 impl Model for Instance {

@@ -26,7 +26,6 @@ use ea_stats::Stats;
 /// one, the nodes that its walk passed and the next one, the statistics of its multiblock and of
 /// its singleblock carriers, its log, and after how many steps it stops, if it does, and how many
 /// are left until then. Once it had no memory it has failed.
-#[derive(Drop)]
 pub struct Scheduler<'t> {
     pub(crate) config: Config,
     pub(crate) trace: &'t Trace,
@@ -60,4 +59,20 @@ pub struct Scheduler<'t> {
         → plan.single ≡ false → prepared ≡ Some (planned_content plan) },
     ghost lists_room: { lists.room ≡ NUMBERS },
     ghost log_room: { length text.now + 1 ≤ done + log.room },
+}
+
+// Written out, so that a drop of one is a call: proofs of what has one are shorter.
+impl<'t> Drop for Scheduler<'t> {
+    fn drop(self) {
+        let Scheduler { instance, lists, names, stage, prepared, passed, mbcs, sbcs, log, .. } = self;
+        drop(instance);
+        drop(lists);
+        drop(names);
+        drop(stage);
+        drop(prepared);
+        drop(passed);
+        drop(mbcs);
+        drop(sbcs);
+        drop(log);
+    }
 }
