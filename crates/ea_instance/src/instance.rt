@@ -66,7 +66,13 @@ pub struct Instance {
 // Written out, as Held's is.
 impl Drop for Instance {
     fn drop(self) {
-        let Instance { own, carriers, singles, spare, .. } = self;
+        let Instance {
+            own,
+            carriers,
+            singles,
+            spare,
+            ..
+        } = self;
         drop(own);
         drop(carriers);
         drop(singles);

@@ -64,7 +64,18 @@ pub struct Scheduler<'t> {
 // Written out, so that a drop of one is a call: proofs of what has one are shorter.
 impl<'t> Drop for Scheduler<'t> {
     fn drop(self) {
-        let Scheduler { instance, lists, names, stage, prepared, passed, mbcs, sbcs, log, .. } = self;
+        let Scheduler {
+            instance,
+            lists,
+            names,
+            stage,
+            prepared,
+            passed,
+            mbcs,
+            sbcs,
+            log,
+            ..
+        } = self;
         drop(instance);
         drop(lists);
         drop(names);
