@@ -12,9 +12,11 @@ use Rattle.ea_given.specs.Layouts.{layouts_of_run}
 use Rattle.ea_hist.specs.Text.{histograms_text}
 use Rattle.ea_trace.specs.Language.{trace}
 
--- the text has the histograms of the state in which the schedule of the trace is completed
-abbrev pub IsHistograms : Config → Trace → List ℕ → Type 0
-IsHistograms c t text = text ≡ histograms_text (layouts_of_run c t)
+-- the trace is valid, and the text has the histograms of the state in which its schedule is
+-- completed
+pub record IsHistograms (c : Config) (t : Trace) (text : List ℕ) : Type 0 where
+  pub valid : IsValidTrace c.schedulers t
+  pub printed : text ≡ histograms_text (layouts_of_run c t)
 
 -- an input asks that a trace be run; each run of a trace keeps the protocol
 abbrev pub histograms : Language

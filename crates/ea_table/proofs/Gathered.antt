@@ -31,6 +31,7 @@ use Rattle.ea_machine.specs.State.{State}
 use Rattle.ea_machine.specs.Stops.{count_of, left_after, less, stop_at, stop_of}
 use Rattle.ea_sched.specs.Acting.{actor_of, stop_line}
 use Rattle.ea_sched.specs.declared.state.Scheduler.{Scheduler}
+use Rattle.ea_shared.specs.Calls.{KnowsFront, caller_of}
 use Rattle.ea_shared.specs.Carriers.{home_of}
 use Rattle.ea_sound.proofs.Asked.{named-spot}
 use Rattle.ea_sound.proofs.CarrierCalls.{there-number}
@@ -44,7 +45,7 @@ use Rattle.ea_table.specs.declared.views.Seated.{Seated}
 use Rattle.ea_table.specs.declared.views.View.{View}
 use Rattle.ea_table.specs.declared.worker.Finished.{Finished}
 use Rattle.ea_table.specs.Ending.{Counts, Gives, HasPlaces, IsClosedIn, IsLast}
-use Rattle.ea_table.specs.Ruling.{Keeps, Knows, Sits, acting, holds}
+use Rattle.ea_table.specs.Ruling.{Keeps, Knows, Sits, acting, caller_in, holds}
 use Rattle.ea_table.specs.Slots.{IsSlot, Slot, slot_at}
 use Rattle.ea_table.specs.Words.{IsFit}
 use Rattle.ea_table.proofs.Laws.{worded}
@@ -230,6 +231,24 @@ module _ (c : Config) (t : Trace) (valid : IsValidConfig c) (made : IsValidTrace
         ) in
         sym parts ∙ ap (λ j. count_of j turns) x.number
 
+    -- its seat knows these turns up to its last one
+    knew : (k : ℕ) (d : Finished) → k < length (front ++ last ∷ [])
+        → KnowsFront e (k + 1) turns
+        (caller_in (get_or (front ++ last ∷ []) k d).pass.seat.me.0)
+    knew k d less =
+        let f = get_or (front ++ last ∷ []) k d in
+        let x = is-last k d less in
+        let y = sat k d less in
+        let i = (seat_of f).number in record {
+          stands = ap (λ (z : Config). caller_of (setup_of z f.pass.seat.me.0.trace) i
+              (seat_of f).turns) x.config
+              ∙ ap (λ (z : Trace). caller_of (setup_of c z) i (seat_of f).turns) x.trace
+              ∙ ap (λ j. caller_of e j (seat_of f).turns) x.number;
+          since = y.since;
+          front = y.front;
+          others = subst (λ j. All (λ m. m ≢ j) y.since) x.number y.others;
+        }
+
     counts : (k : ℕ) (d : Finished) → k < length (front ++ last ∷ [])
         → Counts (e.stops (k + 1)) (count_of (k + 1) turns)
         (get_or (front ++ last ∷ []) k d).scheduler.left
@@ -312,6 +331,8 @@ module _ (c : Config) (t : Trace) (valid : IsValidConfig c) (made : IsValidTrace
       ≡ actors_of e (run e turns))
       × ((k : ℕ) (d : Finished) → k < length (front ++ last ∷ [])
       → (get_or (front ++ last ∷ []) k d).scheduler.left ≡ left_after e turns (k + 1))
+      × ((k : ℕ) (d : Finished) → k < length (front ++ last ∷ []) → KnowsFront e (k + 1) turns
+      (caller_in (get_or (front ++ last ∷ []) k d).pass.seat.me.0))
   closed-in about p q j v is ws xs final ss same =
       let closed = moved about.config c about.trace.now t p q (Closes j v ws xs)
       (closes about j v ws xs final) in
@@ -330,6 +351,7 @@ module _ (c : Config) (t : Trace) (valid : IsValidConfig c) (made : IsValidTrace
         },
         actors,
         left-is turns closed.seat_of closed.claim_of j v is closed.knows.seated,
+        knew turns closed.seat_of closed.claim_of j v is closed.knows.seated,
       )
 
 -- the same of finished schedulers of which the last one's seat took in the others
@@ -350,11 +372,13 @@ pub gathered : (c : Config) (t : Trace) → IsValidConfig c → IsValidTrace c.s
     ≡ actors_of (setup_of c t) (run (setup_of c t) turns))
     × ((k : ℕ) (d : Finished) → k < length finished
     → (get_or finished k d).scheduler.left ≡ left_after (setup_of c t) turns (k + 1))
+    × ((k : ℕ) (d : Finished) → k < length finished → KnowsFront (setup_of c t) (k + 1) turns
+    (caller_in (get_or finished k d).pass.seat.me.0))
 gathered c t valid made about p q id finished all each front last items j v is ws xs final taken ss
     pushed same =
     let same' = pushed ∙ ap (λ xs. xs ++ last.scheduler ∷ []) same
     ∙ sym (map-append (λ (f : Finished). f.scheduler) front (last ∷ [])) in
-    let (turns, steps, within, closed, actors, left) = closed-in c t valid made id front last
+    let (turns, steps, within, closed, actors, left, knew) = closed-in c t valid made id front last
     (ap length (sym items) ∙ all)
     (λ k d less. subst (λ xs. IsLast c t id (k + 1) (get_or xs k d)) items (each k d less))
     about p q j v is ws xs final ss same' in (
@@ -366,4 +390,7 @@ gathered c t valid made about p q id finished all each front last items j v is w
       subst (λ (fs : List Finished). (k : ℕ) (d : Finished) → k < length fs
           → (get_or fs k d).scheduler.left ≡ left_after (setup_of c t) turns (k + 1))
           (sym items) left,
+      subst (λ (fs : List Finished). (k : ℕ) (d : Finished) → k < length fs
+          → KnowsFront (setup_of c t) (k + 1) turns (caller_in (get_or fs k d).pass.seat.me.0))
+          (sym items) knew,
     )

@@ -30,11 +30,12 @@ use Rattle.ea_machine.specs.Setup.{setup_of}
 use Rattle.ea_machine.specs.Stops.{count_of, left_after, stop_of}
 use Rattle.ea_sched.specs.declared.state.Scheduler.{Scheduler}
 use Rattle.ea_sched.specs.Acting.{actor_of, stop_line}
+use Rattle.ea_shared.specs.Calls.{KnowsFront}
 use Rattle.ea_shared.specs.Carriers.{IsCarrier, home_of}
 use Rattle.ea_word.specs.Codes.{IsCodable, IsShown, word_in}
 use Rattle.ea_table.specs.declared.views.View.{View}
 use Rattle.ea_table.specs.declared.worker.Finished.{Finished}
-use Rattle.ea_table.specs.Ruling.{acting, actor_in}
+use Rattle.ea_table.specs.Ruling.{acting, actor_in, caller_in}
 use Rattle.ea_table.specs.Slots.{Slot, slot_at}
 use Rattle.ea_table.specs.Words.{given_code, name_at, owner_at, place_code}
 
@@ -121,7 +122,8 @@ pub record IsLast (c : Config) (t : Trace) (id : TableId) (i : ℕ) (f : Finishe
   pub counted : IsCounted f.pass.seat.me.0 f.scheduler
 
 -- what is printed is that of the run after some steps, of each scheduler up to its stop, in which
--- the schedulers stand so
+-- the schedulers stand so. The steps are what the seats went through: each seat knows them up to
+-- the last one of its scheduler, and those after it are steps of others
 pub record IsEnd (c : Config) (t : Trace) (finished : List Finished) (outcome : Outcome) : Type 0
   where
     pub turns : List ℕ
@@ -131,4 +133,7 @@ pub record IsEnd (c : Config) (t : Trace) (finished : List Finished) (outcome : 
         ≡ machine.actors_of (setup_of c t) (run (setup_of c t) turns)
     pub left : (k : ℕ) (d : Finished) → k < length finished
         → (get_or finished k d).scheduler.left ≡ left_after (setup_of c t) turns (k + 1)
+    pub knew : (k : ℕ) (d : Finished) → k < length finished
+        → KnowsFront (setup_of c t) (k + 1) turns
+        (caller_in (get_or finished k d).pass.seat.me.0)
     pub printed : plain_outcome outcome ≡ machine.outcome (setup_of c t) turns

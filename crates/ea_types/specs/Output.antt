@@ -1,13 +1,13 @@
 -- What an input with several types asks for, and the texts that its runs have (`IsTypesText`).
 -- This simulator's own: the sources do not speak of it.
 use Rattle.std.specs.Prelude.{◌≡◌, ℕ, ◌<◌, List, [], ◌∷◌, ◌++◌, Result, Ok, Err, codes, length, map}
-use Rattle.std.specs.Prelude.{slice_index_or}
+use Rattle.std.specs.Prelude.{All, slice_index_or}
 use Rattle.std.specs.Option.{option_map_or}
 use Rattle.ea_model.specs.declared.outcome.Outcome.{Outcome}
 use Rattle.ea_model.specs.declared.settings.Config.{Config}
 use Rattle.ea_model.specs.declared.settings.Letter.{Letter}
 use Rattle.ea_model.specs.declared.trace.Trace.{Trace}
-use Rattle.ea_model.specs.Trace.{plain}
+use Rattle.ea_model.specs.Trace.{IsValidTrace, plain}
 use Rattle.ea_machine.specs.Outcome.{outcome}
 use Rattle.ea_report.specs.Text.{outcome_text}
 use Rattle.ea_trace.specs.Language.{WordLines, lines_of}
@@ -77,7 +77,9 @@ parts_text [] outcomes = []
 parts_text (x ∷ xs) [] = []
 parts_text (x ∷ xs) (o ∷ os) = part_text x o ++ parts_text xs os
 
--- the text is that of outcomes of the types
-abbrev pub IsTypesText : Config → TypedTraces → List ℕ → Type 0
-IsTypesText c asked text = (outcomes : List Outcome) × AreOutcomes c asked outcomes
-    × (text ≡ parts_text asked.letters outcomes)
+-- the traces are valid, and the text is that of outcomes of the types
+pub record IsTypesText (c : Config) (asked : TypedTraces) (text : List ℕ) : Type 0 where
+  pub valid : All (IsValidTrace c.schedulers) asked.traces
+  pub outcomes : List Outcome
+  pub each : AreOutcomes c asked outcomes
+  pub printed : text ≡ parts_text asked.letters outcomes

@@ -1,9 +1,15 @@
 //! An input with several types.
+ghost use Rattle.std.specs.Prelude.{◌≡◌};
 
 use ea_model::{Letter, List, Trace};
 
 /// How many types an input has at most.
 pub const MAX_TYPES: usize = 8;
+
+/// The value of the constant, so that another value is refused.
+pub fn constants()
+    ensures types { MAX_TYPES ≡ 8 }
+{}
 
 /// An input with several types, as it was read.
 #[derive(Drop)]

@@ -17,7 +17,7 @@ mod threads;
 mod type_reader;
 mod types;
 
-pub use input::{MAX_TYPES, TypedInput};
+pub use input::{MAX_TYPES, TypedInput, constants};
 pub use laws::{all_end, own_runs};
 pub use reader::read_types;
 pub use threads::run_typed_threads;

@@ -30,7 +30,7 @@ pub outcome_of_closed-outcome-requires-clause-stand :
     goal.outcome_of_closed-outcome-requires-clause-stand
 outcome_of_closed-outcome-requires-clause-stand c =
     let b = c.args.board in
-    let (turns, steps, within, closed, actors, left) = gathered c.args.config c.args.trace.now
+    let (turns, steps, within, closed, actors, left, knew) = gathered c.args.config c.args.trace.now
     c.requires.config c.requires.trace b.table.shared.key c.requires.key_config
     c.requires.key_trace b.table.shared.table_id
     c.args.finished.items c.requires.all c.requires.each c.pop.new.self.items c.in-Some.last
@@ -48,7 +48,7 @@ returns c =
     let ws = slots_items c.close_with-closed.result.words in
     let xs = slots_items c.close_with-closed.result.slots in
     let e = setup_of c.args.config c.args.trace.now in
-    let (turns, steps, within, closed, actors, left) = gathered c.args.config c.args.trace.now
+    let (turns, steps, within, closed, actors, left, knew) = gathered c.args.config c.args.trace.now
     c.requires.config c.requires.trace b.table.shared.key c.requires.key_config
     c.requires.key_trace b.table.shared.table_id
     c.args.finished.items c.requires.all c.requires.each c.pop.new.self.items c.in-Some.last
@@ -68,5 +68,6 @@ returns c =
       within = within;
       actors = actors;
       left = left;
+      knew = knew;
       printed = is turns closed;
     }) c.outcome_of_closed-outcome.ensures
