@@ -194,7 +194,8 @@ impl Held {
         requires { self.kind ≡ kind.Multi }
         ensures { result ≡ self }
     {
-        match self.part {
+        let Held { part } = self;
+        match part {
             Part::Multi { carrier } => carrier,
             Part::Single { .. } => unreachable!(),
         }
@@ -207,7 +208,8 @@ impl Instance {
     pub fn discard(&mut self, content: Held)
         ensures { self.new ≡ self.old }
     {
-        match content.part {
+        let Held { part } = content;
+        match part {
             Part::Multi { carrier } => self.spare.keep(carrier),
             Part::Single { .. } => (),
         }

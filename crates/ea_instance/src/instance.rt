@@ -67,11 +67,13 @@ pub struct Instance {
 impl Drop for Instance {
     fn drop(self) {
         let Instance {
+            settings: _,
+            number: _,
             own,
             carriers,
             singles,
+            created: _,
             spare,
-            ..
         } = self;
         drop(own);
         drop(carriers);
