@@ -65,16 +65,25 @@ pub struct Scheduler<'t> {
 impl<'t> Drop for Scheduler<'t> {
     fn drop(self) {
         let Scheduler {
+            config: _,
+            trace: _,
+            migrates: _,
+            number: _,
+            text: _,
+            done: _,
             instance,
             lists,
             names,
             stage,
             prepared,
             passed,
+            next: _,
             mbcs,
             sbcs,
             log,
-            ..
+            stop: _,
+            left: _,
+            failed: _,
         } = self;
         drop(instance);
         drop(lists);
