@@ -208,10 +208,8 @@ impl Instance {
     pub fn discard(&mut self, content: Held)
         ensures { self.new ≡ self.old }
     {
-        let Held { part } = content;
-        match part {
-            Part::Multi { carrier } => self.spare.keep(carrier),
-            Part::Single { .. } => (),
+        if !content.is_single() {
+            self.spare.keep(content.into_multi());
         }
     }
 
