@@ -113,28 +113,7 @@ impl<'t> Scheduler<'t> {
         ensures { result.items ≡ self.entry.log.items ++ stop_line self.entry }
     {
         let stop = self.stopped_after();
-        let Scheduler {
-            config: _,
-            trace: _,
-            migrates: _,
-            number: _,
-            text: _,
-            done: _,
-            instance: _instance,
-            lists: _lists,
-            names: _names,
-            stage: _stage,
-            prepared: _prepared,
-            passed: _passed,
-            next: _,
-            mbcs: _mbcs,
-            sbcs: _sbcs,
-            log,
-            stop: _,
-            left: _,
-            failed: _,
-        } = self;
-        with_stop(log, stop)
+        with_stop(self.into_entries(), stop)
     }
 
     /// After how many steps it stopped; None exactly where it isn't stopped.

@@ -96,3 +96,33 @@ impl<'t> Drop for Scheduler<'t> {
         drop(log);
     }
 }
+
+impl<'t> Scheduler<'t> {
+    /// What came of its operations, by value.
+    pub(crate) fn into_entries(self) -> Log
+        ensures { result ≡ self.entry.log }
+    {
+        let Scheduler {
+            config: _,
+            trace: _,
+            migrates: _,
+            number: _,
+            text: _,
+            done: _,
+            instance: _instance,
+            lists: _lists,
+            names: _names,
+            stage: _stage,
+            prepared: _prepared,
+            passed: _passed,
+            next: _,
+            mbcs: _mbcs,
+            sbcs: _sbcs,
+            log,
+            stop: _,
+            left: _,
+            failed: _,
+        } = self;
+        log
+    }
+}
