@@ -20,7 +20,8 @@ use Rattle.ea_sound.specs.MachineLaws.{Protocol}
 use Rattle.ea_sound.specs.Names.{only}
 use Rattle.ea_sound.specs.Over.{LiesOver, units_named}
 use Rattle.ea_sound.specs.Present.{Rule}
-use Rattle.ea_sound.proofs.Protocols.{protocol, rule-run}
+use Rattle.ea_sound.proofs.Protocols.{protocol}
+use Rattle.ea_sound.proofs.RuleRuns.{rule-run}
 use Rattle.ea_sound.proofs.StartKept.{all-none}
 use Rattle.ea_given.specs.Runs.{StandsAfter, done_after, holds_after}
 use Rattle.ea_sound.proofs.Stopping.{cut-none}

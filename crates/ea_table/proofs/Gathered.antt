@@ -38,7 +38,7 @@ use Rattle.ea_sound.proofs.CarrierCalls.{there-number}
 use Rattle.ea_sound.proofs.Calls as calls
 use Rattle.ea_sound.proofs.Completing.{outside}
 use Rattle.ea_sound.proofs.OtherTurns.{actor-since}
-use Rattle.ea_sound.proofs.Protocols.{rule-run}
+use Rattle.ea_sound.proofs.RuleRuns.{rule-run}
 use Rattle.ea_sound.proofs.Stopping.{count-append, count-cons, count-no, count-one}
 use Rattle.ea_table.specs.declared.views.About.{About}
 use Rattle.ea_table.specs.declared.views.Seated.{Seated}

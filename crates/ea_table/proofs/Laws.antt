@@ -17,7 +17,8 @@ use Rattle.ea_sound.specs.Present.{Rule}
 use Rattle.ea_sound.proofs.Calls as calls
 use Rattle.ea_sound.proofs.Created.{scheduler-number}
 use Rattle.ea_sound.proofs.Global.{working-scheduler}
-use Rattle.ea_sound.proofs.Protocols.{protocol, rule-run}
+use Rattle.ea_sound.proofs.Protocols.{protocol}
+use Rattle.ea_sound.proofs.RuleRuns.{rule-run}
 use Rattle.ea_sound.proofs.TurnLists.{run-snoc}
 use Rattle.ea_sound.specs.Standing.{IsOlderAt}
 use Rattle.ea_table.specs.Words.{IsWorded}
