@@ -87,7 +87,7 @@ FILES = {
         "# comments are left out\n\n"
         "ea_low | - | - | - | The crate counts\n"
         "ea_low | Counter::add: value, small; Counts::count: Counted.more; Counter::invariant | - | one_is_added | It adds\n"
-        "ea_low | limits::least; hidden | ea_low/least_is_greatest | - | The least is less\n"
+        "ea_low | limits::least; hidden | ea_low/least_is_greatest ea_low/gone | - | The least is less\n"
     ),
 }
 PRINTED = """\
@@ -109,11 +109,14 @@ Counter::add  crates/ea_low/src/counter.rt:18
     ensures small { self.new ≤ 10 }
   claim: It adds
     tests: one_is_added
-  edits of its own lines: adds_nothing (bench/more-edits)
+  edits of its lines: adds_nothing (bench/more-edits)
 
 Counter::hidden  crates/ea_low/src/counter.rt:34
   claim: The least is less
-    edits: least_is_greatest
+    edit ea_low/least_is_greatest:
+      src/limits.rt: a < b
+      -> b < a
+    edit ea_low/gone: it is not there
 
 Counts::count  crates/ea_low/src/counter.rt:42
   Counts once.
@@ -125,8 +128,11 @@ limits::least  crates/ea_low/src/limits.rt:4
   The lesser one.
     ensures { result ≡ min a b }
   claim: The least is less
-    edits: least_is_greatest
-  edits of its own lines: least_is_greatest
+    edit ea_low/least_is_greatest:
+      src/limits.rt: a < b
+      -> b < a
+    edit ea_low/gone: it is not there
+  edits of its lines: least_is_greatest
 """
 
 
