@@ -2,7 +2,7 @@
 """Tests tools/picture: python3 tools/tests/test_picture.py [PROGRAM].
 
 Without PROGRAM the tool takes the one that ./run keeps. What is expected is worked out by hand, from the rules in
-docs/FORMATS.md, or read from the program's text by this file's own reading. The tests with a browser are skipped where
+docs/reference, or read from the program's text by this file's own reading. The tests with a browser are skipped where
 there is no chromium.
 """
 import itertools
@@ -179,7 +179,7 @@ class Moment(Case):
 
 
 class Places(Case):
-    """Carriers that are gone at the end, or had other pages. The numbers stand in docs/FORMATS.md."""
+    """Carriers that are gone at the end, or had other pages. The numbers are those of docs/reference/flags.md."""
 
     def test_a_number_has_two_carriers(self):
         trace = self.trace("alloc 1 2000", "alloc 2 2000", "alloc 3 100", "free 1", "alloc 4 4000", "free 2", "free 3")
@@ -217,6 +217,50 @@ class Places(Case):
         self.assertTrue(35 <= data["unknown"] <= 40)
         self.assertTrue(any(f"all the time: {data['unknown']}." in it for it in data["notes"]))
         self.assertEqual(self.data("--trace", self.trace(*operations), "--", *flags)["unknown"], 0)
+
+
+class Heads(Case):
+    """What a head says of the settings."""
+
+    SIZES = "sbct 512, smbcs 256, lmbcs 5120"
+
+    def head(self, name):
+        """The words below the title of an SVG, up to what is counted there."""
+        lines = re.findall('<text class="small"[^>]*>([^<]*)</text>', self.read(name))
+        return " ".join(lines).partition(" · carriers")[0]
+
+    def test_the_settings_that_held(self):
+        trace = self.trace("alloc 1 100")
+        for flags, held in (
+            ("", f"as aoffcbf, acul 60, {self.SIZES}"),
+            ("+MHas gf", f"as aoffcbf, acul 60, {self.SIZES}"),
+            ("+MHas gf +MHacul 0", f"as gf, acul 0, {self.SIZES}"),
+            ("+Muas af +MHacul 0 +MBsbct 1 +MHmbcgs 5", f"as af, acul 0, {self.SIZES}, mbcgs 5"),
+        ):
+            svg, page, bars = "a.svg", "a.html", "b.svg"
+            self.draw("--trace", trace, "--svg", self.path(svg), "--output", self.path(page), "--histograms",
+                      self.path(bars), "--", *flags.split())
+            wanted = f"{flags or 'no flags'} · held: {held}"
+            self.assertEqual(self.head(svg), wanted)
+            self.assertTrue(self.head(bars).startswith(wanted), flags)
+            data = data_in(self.read(page))
+            self.assertEqual((data["flags"], data["held"]), (flags, held))
+
+    def test_the_page_shows_them(self):
+        self.draw("--trace", self.trace("alloc 1 100"), "--output", self.path("a.html"))
+        self.assertIn('at("about").textContent = [D.flags || "no flags", `held: ${D.held}`,', self.read("a.html"))
+
+    def test_each_type_has_its_own(self):
+        lines = "types H T", "scheduler 1", "H alloc 1 100", "T alloc 1 100", "schedule", "end", ""
+        trace = self.write("a.trace", "\n".join(lines))
+        self.draw("--trace", trace, "--svg", self.path("a.svg"), "--", "+Muas", "bf", "+MTsbct", "64")
+        self.assertIn(f"held: as aoffcbf, acul 60, {self.SIZES}", self.head("a.H.svg"))
+        self.assertIn("held: as bf, acul 0, sbct 64, smbcs 256, lmbcs 5120", self.head("a.T.svg"))
+
+    def test_a_region_has_none(self):
+        trace = self.write("a.input", "super\nscheduler 1\ntake 1 10\nend\n")
+        self.draw("--trace", trace, "--svg", self.path("a.svg"), "--", "+MHas", "gf")
+        self.assertNotIn("held: ", self.read("a.svg"))
 
 
 class Schedulers(Case):
@@ -277,7 +321,7 @@ LEFT_BUSY = (
 
 
 class Stops(Case):
-    """What a stopped scheduler keeps. Steps and units are worked out from docs/FORMATS.md."""
+    """What a stopped scheduler keeps. Steps and units are worked out from docs/reference/trace.md."""
 
     def stopped(self, operations, steps, *flags):
         """The page's data of one scheduler that is stopped."""
