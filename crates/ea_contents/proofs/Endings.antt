@@ -37,7 +37,7 @@ use Rattle.ea_contents.proofs.Moments.{turn-step}
 
 module _ (e : Setup) (script : Script) where
   module _ (i : ℕ) where
-    ending-none : (most : ℕ) (m : Moment) → ending e script most m i Ended ≡ []
+    pub ending-none : (most : ℕ) (m : Moment) → ending e script most m i Ended ≡ []
     ending-none zero m = refl
     ending-none (suc most) m = refl
 
@@ -195,7 +195,7 @@ module _ (c : Config) (t : Trace) (config : IsValidConfig c) (valid : IsValidTra
         abbrev Fewer : Moment → Type 0
         Fewer n = turns_left e script n i + m.past i < turns_left e script m i + n.past i
 
-        some-left : m.past i < turns_left e script m i
+        pub some-left : m.past i < turns_left e script m i
         some-left = omega (
           arith,
           few,

@@ -9,16 +9,21 @@ use Rattle.std.specs.Prelude.{List, [], ◌∷◌, ◌++◌, Option, None, Some,
 use Rattle.std.specs.Prelude.{is_some, not, slice_set}
 use Rattle.ea_model.specs.declared.operations.Op.{Op}
 use Rattle.ea_model.specs.declared.operations.Op.TheVariants as op
+use Rattle.ea_model.specs.declared.settings.Config.{Config}
+use Rattle.ea_model.specs.declared.trace.Trace.{Trace}
 use Rattle.ea_model.specs.Content.{Content}
+use Rattle.ea_model.specs.Settings.{IsValidConfig}
+use Rattle.ea_model.specs.Trace.{IsValidTrace}
 use Rattle.ea_machine.specs.declared.stages.Stage.{Stage}
 use Rattle.ea_machine.specs.declared.stages.Stage.TheVariants.{Ended}
 use Rattle.ea_machine.specs.Completion.{work}
 use Rattle.ea_machine.specs.Machine.{start, step}
 use Rattle.ea_machine.specs.Nodes.{named_at}
-use Rattle.ea_machine.specs.Setup.{Setup}
+use Rattle.ea_machine.specs.Setup.{Setup, setup_of}
 use Rattle.ea_machine.specs.Shared.{put}
 use Rattle.ea_machine.specs.State.{State}
 use Rattle.ea_sound.specs.Over.{units_named}
+use Rattle.ea_sound.specs.Progress.{AllEnded}
 use Rattle.ea_contents.specs.declared.access.Access.{Access}
 use Rattle.ea_contents.specs.declared.access.Access.TheVariants.{Read, Write}
 use Rattle.ea_contents.specs.declared.access.AccessEntry.{AccessEntry}
@@ -228,3 +233,13 @@ module _ (setup : Setup) where
 
   abbrev pub end_of : Script → List ℕ → Moment
   end_of script turns = play script (complete script turns)
+
+  -- they suffice: after them every scheduler has ended
+  abbrev pub CompletesAll : Script → List ℕ → Type 0
+  CompletesAll script turns = AllEnded (end_of script turns).state
+
+-- so it is for each valid trace under a valid configuration, whatever the writes and reads and the
+-- schedule
+abbrev pub AllEnd : Type 0
+AllEnd = (c : Config) (t : Trace) → IsValidConfig c → IsValidTrace c.schedulers t
+    → (script : Script) (turns : List ℕ) → CompletesAll (setup_of c t) script turns

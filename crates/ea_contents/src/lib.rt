@@ -29,7 +29,7 @@ mod text;
 pub use access::{Access, AccessEntry, Making};
 pub use contents::run_contents;
 pub use input::{ContentsInput, Placed};
-pub use laws::agreement;
+pub use laws::{agreement, all_end};
 pub use memory::Memory;
 pub use playing::{ContentsOutcome, run_script};
 pub use reader::read_contents;

@@ -1,28 +1,33 @@
 -- The turns of a line: those of its scheduler until its log has grown.
 use Rattle.std.proofs.Common.{◌≡◌, ℕ, zero, suc, ◌+◌, ◌<◌, ◌≤◌, ◌||◌, Bool, true, false}
-use Rattle.std.proofs.Common.{List, [], ◌∷◌, ◌++◌, refl, sym, ap, ◌∙◌, subst, arith}
+use Rattle.std.proofs.Common.{List, [], ◌∷◌, ◌++◌, refl, sym, ap, ◌∙◌, subst, arith, ◌⊎◌, inl, inr}
 use Rattle.std.specs.Prelude.{None, nat_lt, replicate}
+use Rattle.std.proofs.lemmas.Bool.{cases_Bool}
 use Rattle.std.proofs.lemmas.List.{append-nil, append_assoc}
 use Rattle.ea_model.specs.declared.settings.Config.{Config}
 use Rattle.ea_model.specs.declared.trace.Trace.{Trace}
+use Rattle.ea_model.specs.Content.{Content}
 use Rattle.ea_model.specs.Settings.{IsValidConfig}
 use Rattle.ea_model.specs.Trace.{IsScheduler, IsValidTrace, stop_in}
 use Rattle.ea_machine.specs.Completion.{work}
 use Rattle.ea_machine.specs.Machine.{IsReached, run, run_on, start, step}
 use Rattle.ea_machine.specs.Setup.{Setup, setup_of}
 use Rattle.ea_machine.specs.State.{State}
+use Rattle.ea_machine.specs.declared.stages.Stage.{Stage}
+use Rattle.ea_machine.specs.declared.stages.Stage.TheVariants.{Ended}
 use Rattle.ea_machine.specs.Stops.{run_with_stops}
 use Rattle.ea_sound.specs.Turns.{is_ended}
 use Rattle.ea_sound.proofs.Asked.{reached-rule}
-use Rattle.ea_sound.proofs.Completing.{reached-step, rule-less}
+use Rattle.ea_sound.proofs.Completing.{reached-run, reached-step, rule-less}
 use Rattle.ea_sound.proofs.Growing.{same-going, same-log}
 use Rattle.ea_sound.proofs.Protocols.{always-protocol}
-use Rattle.ea_sound.proofs.TurnLists.{not-ended, run-append}
+use Rattle.ea_sound.proofs.TurnLists.{ended-is, not-ended, run-append}
 use Rattle.ea_given.specs.declared.run.GivenRun.{GivenRun}
 use Rattle.ea_given.specs.Runs.{HasScheduler, HasTaken, IsRun, StandsAfter, StaysInOperation}
 use Rattle.ea_given.specs.Runs.{Tells, done_after, ended_after, left_in, log_length}
 use Rattle.ea_sound.proofs.Stopping.{cut-none}
-use Rattle.ea_recorded.specs.Order.{is_over, line_turns, operating, turns_in_order}
+use Rattle.ea_recorded.specs.Order.{EachLineEnds, EndsLine, EndsLines, is_over, line_turns}
+use Rattle.ea_recorded.specs.Order.{operating, turns_in_order}
 use Rattle.ea_recorded.specs.Running.{HasRun, HasRunAll, IsUnstopped}
 
 or-left : (a b : Bool) → (a || b) ≡ false → a ≡ false
@@ -147,6 +152,47 @@ module _ (c : Config) (t : Trace) (config : IsValidConfig c)
         ∙ ap (λ js. turns ++ js) (operating-over e leads.most done (run e turns) me)
         ∙ append-nil turns
 
+  -- after the turns of a line it is over
+  over-after : (me done most : ℕ) (w : State) → IsReached e w → work e w me ≤ most
+      → (b : Bool) → is_over done w me ≡ b
+      → is_over done (run_on e w (operating e most done w me b)) me ≡ true
+  over-after me done zero w reached upto true is = is
+  over-after me done zero w reached upto false is =
+      absurd (omega (arith, upto, less me done w reached is))
+  over-after me done (suc most) w reached upto true is = is
+  over-after me done (suc most) w reached upto false is =
+      let v = step e w me in
+      over-after me done most v (reached-step e w me reached)
+      (omega (arith, upto, less me done w reached is)) (is_over done v me) refl
+
+  line-over : (w : State) (me : ℕ) → IsReached e w
+      → is_over (log_length w me) (run_on e w (line_turns e w me)) me ≡ true
+  line-over w me reached = over-after me (log_length w me) (work e w me) w reached (omega arith)
+      (is_over (log_length w me) w me) refl
+
+  ends-line : (w : State) (me : ℕ) → IsReached e w → EndsLine e w me
+  ends-line w me reached =
+      let v = run_on e w (line_turns e w me) in
+      by (v.actors me).stage (log_length w me) (log_length v me) (line-over w me reached)
+    where
+      grown : (n m : ℕ) → nat_lt n m ≡ true → n < m
+      grown n m is = grind (arith, is)
+
+      by : (stage : Stage Content) (n m : ℕ)
+          → (is_ended stage || nat_lt n m) ≡ true → (stage ≡ Ended) ⊎ (n < m)
+      by stage n m over = elim (cases_Bool (is_ended stage)) [
+        | inl ended ↦ inl (ended-is stage ended)
+        | inr not ↦ inr (grown n m (sym (ap (λ b. b || nat_lt n m) not) ∙ over))
+      ]
+
+  pub ends-lines : (w : State) (lines : List ℕ) → IsReached e w → EndsLines e w lines
+  ends-lines w [] reached = tt
+  ends-lines w (me ∷ lines) reached = (
+    ends-line w me reached,
+    ends-lines (run_on e w (line_turns e w me)) lines
+        (reached-run e w (line_turns e w me) reached),
+  )
+
   -- a run in which no scheduler stops
   module _ (stops : t.stops.items ≡ []) where
     nobody-stops : (i : ℕ) → e.stops i ≡ None
@@ -195,6 +241,10 @@ module _ (c : Config) (t : Trace) (config : IsValidConfig c)
           (has.0, omega (arith, has.1, ap (λ (x : Config). x.schedulers) at.config)) in
           at.left me there
           ∙ ap (λ (w : State). work e w me) (all-taken turns)
+
+pub each-line-ends : EachLineEnds
+each-line-ends c t config valid lines =
+    ends-lines c t config valid (start (setup_of c t)) lines ([], refl)
 
 -- a run goes on with a line
 pub no-stops : (c : Config) (t : Trace) (turns : List ℕ) (r : GivenRun) → StandsAfter c t turns r

@@ -4,7 +4,7 @@ use Rattle.std.proofs.Common.{◌++◌, Option, Some, None, Ok, Err, length, map
 use Rattle.std.proofs.Common.{◌∙◌, arith}
 use Rattle.std.specs.Borrow.{Bor}
 use Rattle.std.specs.Option.{option_map_or}
-use Rattle.std.specs.Prelude.{All, IfSome, nat_lt}
+use Rattle.std.specs.Prelude.{All, IfSome, Result, nat_lt}
 use Rattle.std.proofs.lemmas.List.{length-append, length-map, map-append}
 use Rattle.std.proofs.lemmas.List.Elements.{All-append, All-cons, All-nil}
 use Rattle.ea_model.specs.Trace.{IsScheduler, plain}
@@ -23,7 +23,7 @@ use Rattle.ea_recorded.specs.Language.{Asked, Told, addressed, after_first, aske
 use Rattle.ea_recorded.specs.Language.{line_by, line_of, may_stand, next, operation_by, order_of}
 use Rattle.ea_recorded.specs.Language.{answer_in, asked_for, asked_if, ended_letter, read_after}
 use Rattle.ea_recorded.specs.Language.{refusal, refused_by, told_by, trace_lines, words_of}
-use Rattle.ea_recorded.specs.Reading.{Reads}
+use Rattle.ea_recorded.specs.Reading.{Reads, end_refusal, or_later}
 use Rattle.ea_recorded.specs.Told.{AreTold, IsInRange, IsLineInRange, IsSaid, ToldLines}
 use Rattle.ea_recorded.specs.declared.lines.OwnLine.{OwnLine}
 use Rattle.ea_recorded.specs.declared.lines.RecordedLine.{RecordedLine}
@@ -288,3 +288,84 @@ pub order-theirs : (n number : ℕ) (asked : Asked) (r : Reading) → Reads n as
 order-theirs n number asked r reads order same = subst (All (IsScheduler r.schedulers))
     (sym (same ∙ ap (map (λ (o : OwnLine). o.scheduler)) reads.own.own ∙ schedulers-is reads.told))
     (subst (λ k. All (IsScheduler k) (order_of reads.told)) (sym reads.schedulers) reads.theirs)
+
+-- refusals that need no memory
+
+-- a refused line ends the reading so
+pub early-refused : (A : Type 0) (o later : Option TraceFault) (kept : Bool) (g : TraceFault)
+    → o ≡ Some g
+    → IfSome (or_later o kept later) (λ f. ◌≡◌ {A = Result A TraceFault} (Err g) (Err f))
+early-refused A None later kept g is = absurd cc
+early-refused A (Some f) later kept g is = ap Err (some-same g f (sym is))
+  where
+    some-same : (f g : TraceFault) → Some g ≡ Some f → f ≡ g
+    some-same f g is = cc
+
+-- and one that is not refused leaves it to the lines after it, unless it is kept
+pub early-taken : (o later : Option TraceFault) (kept : Bool) → o ≡ None
+    → IfSome (or_later o kept later) (λ f. later ≡ Some f)
+early-taken (Some f) later kept is = absurd cc
+early-taken None later true is = tt
+early-taken None None false is = tt
+early-taken None (Some f) false is = refl
+
+-- one that is kept is none of them
+pub early-kept : (P : TraceFault → Type 0) (o later : Option TraceFault) (kept : Bool) → o ≡ None
+    → kept ≡ true → IfSome (or_later o kept later) P
+early-kept P (Some f) later kept is keeps = absurd cc
+early-kept P None later true is keeps = tt
+early-kept P None later false is keeps = absurd cc
+
+pub left-first : (o : Option TraceFault) → IfSome o (λ f. o ≡ Some f)
+left-first None = tt
+left-first (Some f) = refl
+
+-- what is refused of the whole text is refused of what is left
+pub left-next : (whole before after : Option TraceFault) → IfSome whole (λ f. before ≡ Some f)
+    → IfSome before (λ f. after ≡ Some f) → IfSome whole (λ f. after ≡ Some f)
+left-next None before after left goes = tt
+left-next (Some f) before after left goes =
+    subst (λ o. IfSome o (λ f. after ≡ Some f)) left goes
+
+pub left-refused : {A : Type 0} (whole before : Option TraceFault) (result : Result A TraceFault)
+    → IfSome whole (λ f. before ≡ Some f) → IfSome before (λ f. result ≡ Err f)
+    → IfSome whole (λ f. result ≡ Err f)
+left-refused None before result left fails = tt
+left-refused (Some f) before result left fails =
+    subst (λ o. IfSome o (λ f. result ≡ Err f)) left fails
+
+-- a line's refusal by the reader's tests
+module _ (n number : ℕ) (stage : Stage) (l : RecordedLine) (stands : Bool)
+    (stands-is : stands ≡ may_stand stage l) where
+  pub syntax-refused : stands ≡ false → refusal n number stage l ≡ Some (fault.Syntax number)
+  syntax-refused not = rw (sym stands-is ∙ not) refl
+
+  module _ (bad : Bool) (bad-is : bad ≡ is_bad n l) (is : stands ≡ true) where
+    pub bad-refused : bad ≡ true → refusal n number stage l ≡ Some (fault.BadScheduler number)
+    bad-refused not = rw (sym stands-is ∙ is, sym bad-is ∙ not) refl
+
+    pub none-refused : bad ≡ false → refusal n number stage l ≡ None
+    none-refused good = rw (sym stands-is ∙ is, sym bad-is ∙ good) refl
+
+pub sure-some : (A : Type 0) (o : Option TraceFault) (g : TraceFault) → o ≡ Some g
+    → IfSome o (λ f. ◌≡◌ {A = Result A TraceFault} (Err g) (Err f))
+sure-some A o g is =
+    subst (λ p. IfSome p (λ f. ◌≡◌ {A = Result A TraceFault} (Err g) (Err f))) (sym is) refl
+
+pub sure-none : (P : TraceFault → Type 0) (o : Option TraceFault) → o ≡ None → IfSome o P
+sure-none P o is = subst (λ p. IfSome p P) (sym is) tt
+
+pub kept-is : (b : Bool) → (b ≡ false → ⊥) → b ≡ true
+kept-is true not = refl
+kept-is false not = absurd (not refl)
+
+-- with `end` there is no refusal at the end
+pub at-end-none : (P : TraceFault → Type 0) (o p : Option Letter) (x : Letter) → p ≡ o
+    → p ≡ Some x → IfSome (end_refusal o) P
+at-end-none P o p x same is = subst (λ q. IfSome (end_refusal q) P) (sym is ∙ same) tt
+
+pub at-end-some : (A : Type 0) (o p : Option Letter) → p ≡ o → p ≡ None
+    → IfSome (end_refusal o) (λ f. ◌≡◌ {A = Result A TraceFault} (Err fault.NoEnd) (Err f))
+at-end-some A o p same is =
+    subst (λ q. IfSome (end_refusal q)
+    (λ f. ◌≡◌ {A = Result A TraceFault} (Err fault.NoEnd) (Err f))) (sym is ∙ same) refl

@@ -1,12 +1,17 @@
 -- The turns in which lines are run one after another, each whole before the next one begins
--- (`recorded_turns`).
+-- (`recorded_turns`), and that each line gets as many as it needs (`EachLineEnds`).
 -- This simulator's own: the sources do not speak of it.
-use Rattle.std.specs.Prelude.{ℕ, zero, suc, nat_lt, Bool, true, false, ◌||◌, List, [], ◌∷◌}
-use Rattle.std.specs.Prelude.{◌++◌}
+use Rattle.std.specs.Prelude.{◌≡◌, ◌⊎◌, ◌<◌, ℕ, zero, suc, nat_lt, Bool, true, false, ◌||◌}
+use Rattle.std.specs.Prelude.{List, [], ◌∷◌, ◌++◌}
+use Rattle.ea_model.specs.declared.settings.Config.{Config}
+use Rattle.ea_model.specs.declared.trace.Trace.{Trace}
+use Rattle.ea_model.specs.Settings.{IsValidConfig}
+use Rattle.ea_model.specs.Trace.{IsValidTrace}
 use Rattle.ea_machine.specs.Completion.{complete, work}
 use Rattle.ea_machine.specs.Machine.{run_on, start, step}
-use Rattle.ea_machine.specs.Setup.{Setup}
+use Rattle.ea_machine.specs.Setup.{Setup, setup_of}
 use Rattle.ea_machine.specs.State.{State}
+use Rattle.ea_machine.specs.declared.stages.Stage.TheVariants.{Ended}
 use Rattle.ea_sound.specs.Turns.{is_ended}
 use Rattle.ea_given.specs.Runs.{log_length}
 
@@ -38,3 +43,20 @@ module _ (setup : Setup) where
   -- scheduler 2, up to the last one
   abbrev pub recorded_turns : List ℕ → List ℕ
   recorded_turns lines = complete setup (turns_in_order (start setup) lines)
+
+  -- the turns of a line suffice: after them the scheduler has ended, or its log has grown
+  abbrev pub EndsLine : State → ℕ → Type 0
+  EndsLine w me =
+      let v = run_on setup w (line_turns w me) in
+      ((v.actors me).stage ≡ Ended) ⊎ (log_length w me < log_length v me)
+
+  -- those of each of these lines do, one after another
+  abbrev pub EndsLines : State → List ℕ → Type 0
+  EndsLines w [] = Unit {0}
+  EndsLines w (me ∷ lines) =
+      EndsLine w me × EndsLines (run_on setup w (line_turns w me)) lines
+
+-- so it is of the lines of each valid trace under a valid configuration, in whatever order
+abbrev pub EachLineEnds : Type 0
+EachLineEnds = (c : Config) (t : Trace) → IsValidConfig c → IsValidTrace c.schedulers t
+    → (lines : List ℕ) → EndsLines (setup_of c t) (start (setup_of c t)) lines

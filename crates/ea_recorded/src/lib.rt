@@ -3,6 +3,7 @@
 #![tactic(auto)]
 
 mod input;
+mod laws;
 mod lines;
 mod order;
 mod part;
@@ -11,5 +12,6 @@ mod recorded;
 mod sections;
 
 pub use input::RecordedInput;
+pub use laws::lines_end;
 pub use reader::read_recorded;
 pub use recorded::run_recorded;

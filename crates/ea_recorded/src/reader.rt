@@ -1,6 +1,6 @@
 //! Reads recorded operations line by line.
 ghost use Rattle.std.specs.Prelude.{◌≡◌, ◌+◌, ◌<◌, ◌≤◌, ◌^◌, [], ◌∷◌, ◌++◌, ℕ, All, Err, IfErr};
-ghost use Rattle.std.specs.Prelude.{IfOk, OnOk, length, map};
+ghost use Rattle.std.specs.Prelude.{IfOk, IfSome, IsOk, OnErr, OnOk, Some, false, length, map};
 ghost use Rattle.ea_model.specs.Trace.{IsScheduler, IsValidTrace};
 ghost use Rattle.ea_model.specs.Words.{words};
 ghost use Rattle.ea_model.specs.declared.units.TheConstants.{MAX_INPUT, MAX_SCHEDULERS};
@@ -8,6 +8,8 @@ ghost use Rattle.ea_trace.specs.Language.{LineWords, WordLines};
 ghost use Rattle.ea_recorded.specs.Input.{GivesInput};
 ghost use Rattle.ea_recorded.specs.Language.{Asked, line_of, read_after, recorded, told_by};
 ghost use Rattle.ea_recorded.specs.Language as language;
+ghost use Rattle.ea_recorded.specs.Language.{refusal};
+ghost use Rattle.ea_recorded.specs.Reading.{early_refusal, early_refusal_in, is_kept};
 ghost use Rattle.ea_recorded.specs.Told.{AreTold, IsLineInRange, ToldLines};
 ghost use Rattle.ea_recorded.specs.declared.lines.Stage.TheVariants.{Start};
 
@@ -82,9 +84,10 @@ struct Reading {
 
 /// Adds a line, if it is one of an operation.
 fn add(lines: &mut Vec<OwnLine>, number: u32, line: RecordedLine) -> Result<(), OutOfMemory>
-    ensures { OnOk result ((told : ToldLines) (words : LineWords) → AreTold told lines.old.items
-        → line ≡ line_of words → IsLineInRange line
+    ensures told { OnOk result ((told : ToldLines) (words : LineWords)
+        → AreTold told lines.old.items → line ≡ line_of words → IsLineInRange line
         → AreTold (told ++ told_by number words line) lines.new.items) }
+    ensures free { is_kept line ≡ false → IsOk result }
 {
     if let RecordedLine::Operation { scheduler, op } = line {
         lines.push(OwnLine {
@@ -108,13 +111,15 @@ fn order_of(alloc: Global, lines: &[OwnLine]) -> Result<List<u32>, OutOfMemory>
 }
 
 impl Reading {
-    ghost use Rattle.ea_recorded.specs.Reading.{IsRead, Reads};
+    ghost use Rattle.ea_recorded.specs.Reading.{IsRead, Reads, early_left};
 
     /// Before the first line.
     fn new(alloc: Global, schedulers: u32) -> Reading
-        ensures { (asked : Asked) (left : WordLines)
+        ensures reads { (asked : Asked) (left : WordLines)
             → asked ≡ read_after schedulers Start 1 [] left
             → Reads schedulers asked 1 left result }
+        ensures early { (left : WordLines)
+            → early_left result left ≡ early_refusal schedulers Start 1 left }
     {
         Reading {
             schedulers,
@@ -124,7 +129,8 @@ impl Reading {
         }
     }
 
-    /// Takes the next line, if it isn't refused.
+    /// Takes the next line, if it isn't refused. No memory is needed to refuse a line, nor to take
+    /// one that isn't kept; to take a line of an operation may fail with `OutOfMemory`.
     fn take(&mut self, text: &[u8]) -> Result<(), TraceFault>
         requires { self.old.number + 1 < 2 ^ 32 }
         ensures ok { OnOk result ((n number : ℕ) (asked : Asked) (left : WordLines)
@@ -133,6 +139,14 @@ impl Reading {
         ensures err { IfErr result (λ fault. (n number : ℕ) (asked : Asked) (left : WordLines)
             → Reads n asked number (words text.now ∷ left) self.old
             → GivesInput (Err fault) asked) }
+        ensures sure { IfSome
+            (refusal self.old.schedulers self.old.number self.old.stage (line_of (words text.now)))
+            (λ f. result ≡ Err f) }
+        ensures goes { OnOk result ((left : WordLines)
+            → IfSome (early_left self.old (words text.now ∷ left))
+            (λ f. early_left self.new left ≡ Some f)) }
+        ensures early { OnErr result ((left : WordLines)
+            → IfSome (early_left self.old (words text.now ∷ left)) (λ f. result ≡ Err f)) }
     {
         let number = self.number;
         let line = read_own(text);
@@ -148,7 +162,7 @@ impl Reading {
         Ok(())
     }
 
-    /// What all lines ask for.
+    /// What all lines ask for. No memory is needed to say that `end` is missing.
     fn finish(self, alloc: Global) -> Result<RecordedInput, TraceFault>
         requires schedulers { self.schedulers ≤ MAX_SCHEDULERS }
         requires few { length self.lines.items ≤ MAX_INPUT + 1 }
@@ -159,6 +173,7 @@ impl Reading {
         ensures unstopped { IfOk result (λ i. i.trace.stops.items ≡ []) }
         ensures texts { IfOk result (λ i. length i.trace.texts.items ≡ self.schedulers) }
         ensures order { IfOk result (λ i. All (IsScheduler self.schedulers) i.order.items) }
+        ensures early { IfSome (early_left self []) (λ f. result ≡ Err f) }
     {
         let Some(letter) = ended_letter(self.stage) else {
             return Err(TraceFault::NoEnd);
@@ -172,7 +187,9 @@ impl Reading {
 /// Reads recorded operations of schedulers 1 to `schedulers`, `MAX_SCHEDULERS` at most. The text
 /// has `MAX_INPUT` bytes at most. Without `OutOfMemory` the answer is what the input asks for, or
 /// its first refusal, with the number of the line: the first line that is refused by itself, then
-/// that `end` is missing, then what the trace is refused for.
+/// that `end` is missing, then what the trace is refused for. No memory is needed to refuse a text
+/// before an operation of it was kept; operations need memory, and `OutOfMemory` may come at each of
+/// them, before a later line is refused.
 pub fn read_recorded(
     alloc: Global,
     bytes: &[u8],
@@ -185,6 +202,7 @@ pub fn read_recorded(
     ensures unstopped { IfOk result (λ i. i.trace.stops.items ≡ []) }
     ensures texts { IfOk result (λ i. length i.trace.texts.items ≡ schedulers) }
     ensures order { IfOk result (λ i. All (IsScheduler schedulers) i.order.items) }
+    ensures early { IfSome (early_refusal_in bytes.now schedulers) (λ f. result ≡ Err f) }
 {
     let mut reading = Reading::new(alloc, schedulers);
     let mut rest = Some(bytes);

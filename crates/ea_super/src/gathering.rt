@@ -1,11 +1,12 @@
 //! Gathers the lines of an input.
-ghost use Rattle.std.specs.Prelude.{◌≡◌, ◌+◌, ◌-◌, ◌<◌, ◌≤◌, ◌∷◌, [], ℕ, List, false, true};
-ghost use Rattle.std.specs.Prelude.{All, IfErr, IfOk, OnOk, length, map};
+ghost use Rattle.std.specs.Prelude.{◌≡◌, ◌≢◌, ◌+◌, ◌-◌, ◌<◌, ◌≤◌, ◌∷◌, [], ℕ, List, false, true};
+ghost use Rattle.std.specs.Prelude.{All, Err, IfErr, IfOk, IfSome, IsOk, OnOk, length, map};
 ghost use Rattle.ea_model.specs.declared.units.TheConstants.{MAX_OPS, MAX_SCHEDULERS};
 ghost use Rattle.ea_super.specs.Asked.{AsksPages, IsAsked, asks_pages, count_in};
+ghost use Rattle.ea_trace.specs.declared.fault.TraceFault.TheVariants as fault;
 ghost use Rattle.ea_super.specs.Knows.{HasRoom, IsBegun, IsRefusal, Knows, Takes};
 ghost use Rattle.ea_super.specs.Language.{Earlier, at_end, is_bad_scheduler, refusal, stage_after};
-ghost use Rattle.ea_super.specs.Reading.{Gives};
+ghost use Rattle.ea_super.specs.Reading.{Gives, end_refusal, is_kept};
 ghost use Rattle.ea_super.specs.declared.lines.Line.TheVariants as line;
 
 use crate::lines::Line;
@@ -73,8 +74,9 @@ impl Seen {
         requires begun { IsBegun self.old.section line }
         requires good { is_bad_scheduler self.old.schedulers self.old.section line ≡ false }
         requires room { HasRoom self.old line }
-        ensures { OnOk result ((n : ℕ) (earlier : Earlier) → Knows n earlier self.old
+        ensures known { OnOk result ((n : ℕ) (earlier : Earlier) → Knows n earlier self.old
             → Knows n (line ∷ earlier) self.new) }
+        ensures free { is_kept line ≡ false → IsOk result }
     {
         match line {
             Line::Super => self.stage = Stage::Opening,
@@ -86,7 +88,8 @@ impl Seen {
         Ok(())
     }
 
-    /// Takes the line with this number, or says why it is refused.
+    /// Takes the line with this number, or says why it is refused. No memory is needed to refuse a
+    /// line, nor to take one that isn't kept; to take another line may fail with `OutOfMemory`.
     pub fn take(&mut self, alloc: Global, number: u32, line: Line) -> Result<(), TraceFault>
         requires { IsAsked line }
         ensures ok { OnOk result ((n : ℕ) (earlier : Earlier) → Knows n earlier self.old
@@ -94,6 +97,10 @@ impl Seen {
         ensures err { IfErr result (λ fault. (n : ℕ) (earlier : Earlier)
             → Knows n earlier self.old → length earlier + 1 ≡ number
             → IsRefusal fault (refusal n earlier line)) }
+        ensures sure { (n : ℕ) (earlier : Earlier) → Knows n earlier self.old
+            → length earlier + 1 ≡ number
+            → IfSome (refusal n earlier line) (λ f. result ≡ Err f) }
+        ensures free { is_kept line ≡ false → IfErr result (λ f. f ≢ fault.OutOfMemory) }
     {
         if !self.admits(line) {
             return Err(TraceFault::Syntax { line: number });
@@ -113,13 +120,14 @@ impl Seen {
         Ok(self.add(alloc, line)?)
     }
 
-    /// The requests of all sections.
+    /// The requests of all sections. No memory is needed to say that `end` is missing.
     pub fn finish(self) -> Result<List<List<Request>>, TraceFault>
         ensures given { (n : ℕ) (earlier : Earlier) → Knows n earlier self
             → Gives result (at_end (stage_after earlier) earlier) }
         ensures count { IfOk result (λ sections. length sections.items ≡ self.schedulers) }
         ensures few { IfOk result (λ sections. count_in sections.items ≤ MAX_OPS) }
         ensures asked { IfOk result (λ sections. All (λ s. AsksPages s.items) sections.items) }
+        ensures sure { IfSome (end_refusal self.stage) (λ f. result ≡ Err f) }
     {
         let Stage::Ended = self.stage else {
             return Err(TraceFault::NoEnd);

@@ -1,9 +1,9 @@
 //! Reads an input line by line.
-ghost use Rattle.std.specs.Prelude.{◌≡◌, ◌+◌, ◌<◌, ◌≤◌, ◌^◌, All, IfOk, length};
+ghost use Rattle.std.specs.Prelude.{◌≡◌, ◌+◌, ◌<◌, ◌≤◌, ◌^◌, All, Err, IfOk, IfSome, length};
 ghost use Rattle.ea_model.specs.declared.units.TheConstants.{MAX_OPS, MAX_SCHEDULERS};
 ghost use Rattle.ea_super.specs.Asked.{AsksPages, count_in};
 ghost use Rattle.ea_super.specs.Language.{requests_in};
-ghost use Rattle.ea_super.specs.Reading.{Gives};
+ghost use Rattle.ea_super.specs.Reading.{Gives, early_refusal_in};
 
 use crate::lines::read_line;
 use crate::seen::Seen;
@@ -15,7 +15,9 @@ use std::alloc::Global;
 
 /// Reads the sections of schedulers 1 to `schedulers`, `MAX_SCHEDULERS` at most. The text has fewer
 /// than 2^32 - 1 bytes. Without `OutOfMemory` the answer is the requests of each section, in order,
-/// or the text's first refusal, with the number of the line.
+/// or the text's first refusal, with the number of the line. No memory is needed to refuse a text
+/// before a section or a request of it was kept; the lines that are kept need memory, and
+/// `OutOfMemory` may come at each of them, before a later line is refused.
 pub fn read_sections(
     alloc: Global,
     bytes: &[u8],
@@ -27,6 +29,7 @@ pub fn read_sections(
     ensures count { IfOk result (λ sections. length sections.items ≡ schedulers) }
     ensures few { IfOk result (λ sections. count_in sections.items ≤ MAX_OPS) }
     ensures asked { IfOk result (λ sections. All (λ s. AsksPages s.items) sections.items) }
+    ensures sure { IfSome (early_refusal_in bytes.now schedulers) (λ f. result ≡ Err f) }
 {
     let mut seen = Seen::new(alloc, schedulers);
     let mut number = 0u32;

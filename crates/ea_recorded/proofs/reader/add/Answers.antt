@@ -4,8 +4,8 @@ use Rattle.ea_recorded.specs.declared.lines.RecordedLine.{RecordedLine}
 use Rattle.ea_recorded.proofs.Reached.{told-more}
 use Rattle.ea_recorded.proofs.reader.add.Goals as goal
 
-pub returns-in_ok-push : goal.returns-in_ok-push
-returns-in_ok-push c = λ told words are e range.
+pub returns-in_ok-push-clause-told : goal.returns-in_ok-push-clause-told
+returns-in_ok-push-clause-told c = λ told words are e range.
     told-more told c.args.lines.now.items c.push.new.self.items c.args.number words c.args.line are e
     range
     (c.in_ok-push.ensures.items

@@ -1,8 +1,9 @@
-use Rattle.std.proofs.Common.{◌+◌, ◌≤◌, length}
+use Rattle.std.proofs.Common.{◌≡◌, ◌+◌, ◌≤◌, Some, length}
+use Rattle.std.specs.Prelude.{IfSome}
 use Rattle.std.specs.Option.{option_map_or}
 use Rattle.ea_frame.specs.Lines.{rest_lines}
 use Rattle.ea_recorded.specs.Language.{recorded}
-use Rattle.ea_recorded.specs.Reading.{Reads}
+use Rattle.ea_recorded.specs.Reading.{Reads, early_left, early_refusal_in}
 use Rattle.ea_recorded.proofs.reader.read_recorded.Given as goal
 
 abbrev pub invariant-loop-rest : goal.invariant-loop-rest
@@ -11,6 +12,8 @@ invariant-loop-rest l = record {
       (rest_lines l.rest) l.reading;
   fewer : option_map_or (λ r. l.reading.number + length r.now + 1) l.rest l.reading.number
       ≤ length l.fn.bytes + 2;
+  early : IfSome (early_refusal_in l.fn.bytes l.schedulers)
+      (λ f. early_left l.reading (rest_lines l.rest) ≡ Some f);
 }
 
 abbrev pub decreases-loop-rest : goal.decreases-loop-rest

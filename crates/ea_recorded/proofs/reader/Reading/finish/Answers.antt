@@ -1,8 +1,10 @@
 use Rattle.std.proofs.Common.{map, sym, ap, subst, ◌∙◌}
 use Rattle.std.proofs.lemmas.Result.{err_from_is_err_and}
+use Rattle.ea_recorded.specs.Language.{ended_letter}
 use Rattle.ea_recorded.specs.Told.{AreTold, IsTold}
 use Rattle.ea_recorded.specs.declared.lines.OwnLine.{OwnLine}
-use Rattle.ea_recorded.proofs.Reached.{ended-err, ended-ok, not-ended, order-theirs}
+use Rattle.ea_recorded.proofs.Reached.{at-end-none, at-end-some, ended-err, ended-ok, not-ended}
+use Rattle.ea_recorded.proofs.Reached.{order-theirs}
 use Rattle.ea_recorded.proofs.reader.Reading.finish.Goals as goal
 
 pub returns-in_default : goal.returns-in_default
@@ -13,6 +15,8 @@ returns-in_default c = record {
   unstopped = tt;
   texts = tt;
   order = tt;
+  early = at-end-some _ (ended_letter c.args.self.stage) c.ended_letter.result
+      c.ended_letter.ensures c.in_default.is;
 }
 
 pub trace_of_lines-requires-clause-few : goal.trace_of_lines-requires-clause-few
@@ -44,3 +48,15 @@ returns-clause-order c =
     let (n, asked, number, reads) = c.requires.read in
     order-theirs n number asked c.args.self reads c.in_ok-order.order.items
     (c.in_ok-order.ensures ∙ ap (map (λ (o : OwnLine). o.scheduler)) c.deref-2.ensures.value)
+
+pub returns-in_err-trace-clause-early : goal.returns-in_err-trace-clause-early
+returns-in_err-trace-clause-early c = at-end-none _ (ended_letter c.args.self.stage) c.ended_letter.result
+    c.in-Some.letter c.ended_letter.ensures c.in-Some.is
+
+pub returns-in_err-order-clause-early : goal.returns-in_err-order-clause-early
+returns-in_err-order-clause-early c = at-end-none _ (ended_letter c.args.self.stage) c.ended_letter.result
+    c.in-Some.letter c.ended_letter.ensures c.in-Some.is
+
+pub returns-clause-early : goal.returns-clause-early
+returns-clause-early c = at-end-none _ (ended_letter c.args.self.stage) c.ended_letter.result
+    c.in-Some.letter c.ended_letter.ensures c.in-Some.is

@@ -5,8 +5,8 @@ use Rattle.ea_model.specs.Trace.{IsScheduler}
 use Rattle.ea_recorded.specs.Told.{IsInRange, IsSaid}
 use Rattle.ea_recorded.proofs.reader.Reading.new.Goals as goal
 
-pub returns : goal.returns
-returns c = λ asked left e. record {
+pub returns-clause-reads : goal.returns-clause-reads
+returns-clause-reads c = λ asked left e. record {
   schedulers = refl;
   count = refl;
   told = [];

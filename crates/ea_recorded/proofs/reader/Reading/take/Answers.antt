@@ -1,7 +1,13 @@
-use Rattle.std.proofs.Common.{refl}
+use Rattle.std.proofs.Common.{◌≡◌, ◌+◌, ◌∷◌, ◌∙◌, Some, ap, refl, subst, sym}
+use Rattle.std.specs.Prelude.{IfSome}
 use Rattle.ea_model.specs.Words.{words}
-use Rattle.ea_recorded.proofs.Reached.{bad-gives, reads-more, said-bad, said-next, said-stands}
-use Rattle.ea_recorded.proofs.Reached.{said-told, syntax-gives}
+use Rattle.ea_trace.specs.declared.fault.TraceFault.TheVariants as fault
+use Rattle.ea_recorded.specs.Language.{line_of, next, refusal}
+use Rattle.ea_recorded.specs.Reading.{early_left, early_refusal, is_kept}
+use Rattle.ea_recorded.proofs.Reached.{bad-gives, bad-refused, early-kept, early-refused, early-taken}
+use Rattle.ea_recorded.proofs.Reached.{kept-is, none-refused, reads-more, said-bad, said-next}
+use Rattle.ea_recorded.proofs.Reached.{said-stands, said-told, sure-none, sure-some, syntax-gives}
+use Rattle.ea_recorded.proofs.Reached.{syntax-refused}
 use Rattle.ea_recorded.proofs.reader.Reading.take.Goals as goal
 
 pub returns-then-not-may_stand-clause-err : goal.returns-then-not-may_stand-clause-err
@@ -31,4 +37,105 @@ returns-clause-ok c = λ n number asked left h.
     c.if-not-may_stand.false c.if-is_bad.false _ refl refl
     (said-next ws _ r.stage c.read_own-line.ensures.line _ c.next-self.ensures)
     (λ told are. said-told ws _ r.number told c.add.new.lines.items c.read_own-line.ensures.line
-    (c.in_ok-add.ensures told ws are c.read_own-line.ensures.line c.read_own-line.ensures.range))
+    (c.in_ok-add.ensures.told told ws are c.read_own-line.ensures.line c.read_own-line.ensures.range))
+
+pub returns-then-not-may_stand-clause-sure : goal.returns-then-not-may_stand-clause-sure
+returns-then-not-may_stand-clause-sure c =
+    let r = c.args.self.now in
+    let ws = words c.args.text.now in
+    let l = line_of ws in
+    sure-some _ (refusal r.schedulers r.number r.stage l) (fault.Syntax c.args.self.now.number)
+    (syntax-refused r.schedulers r.number r.stage l c.may_stand.result
+    (said-stands ws _ r.stage c.read_own-line.ensures.line c.may_stand.result
+    c.may_stand.ensures) c.if-not-may_stand.true)
+
+pub returns-then-not-may_stand-clause-early : goal.returns-then-not-may_stand-clause-early
+returns-then-not-may_stand-clause-early c = λ left.
+    let r = c.args.self.now in
+    let ws = words c.args.text.now in
+    let l = line_of ws in
+    early-refused _ (refusal r.schedulers r.number r.stage l)
+    (early_refusal r.schedulers (next r.stage l) (r.number + 1) left) (is_kept l) (fault.Syntax c.args.self.now.number)
+    (syntax-refused r.schedulers r.number r.stage l c.may_stand.result
+    (said-stands ws _ r.stage c.read_own-line.ensures.line c.may_stand.result
+    c.may_stand.ensures) c.if-not-may_stand.true)
+
+pub returns-then-is_bad-clause-sure : goal.returns-then-is_bad-clause-sure
+returns-then-is_bad-clause-sure c =
+    let r = c.args.self.now in
+    let ws = words c.args.text.now in
+    let l = line_of ws in
+    sure-some _ (refusal r.schedulers r.number r.stage l) (fault.BadScheduler c.args.self.now.number)
+    (bad-refused r.schedulers r.number r.stage l c.may_stand.result
+    (said-stands ws _ r.stage c.read_own-line.ensures.line c.may_stand.result
+    c.may_stand.ensures) c.is_bad.result
+    (said-bad ws _ r.schedulers c.read_own-line.ensures.line c.is_bad.result
+    c.is_bad.ensures) c.if-not-may_stand.false c.if-is_bad.true)
+
+pub returns-then-is_bad-clause-early : goal.returns-then-is_bad-clause-early
+returns-then-is_bad-clause-early c = λ left.
+    let r = c.args.self.now in
+    let ws = words c.args.text.now in
+    let l = line_of ws in
+    early-refused _ (refusal r.schedulers r.number r.stage l)
+    (early_refusal r.schedulers (next r.stage l) (r.number + 1) left) (is_kept l) (fault.BadScheduler c.args.self.now.number)
+    (bad-refused r.schedulers r.number r.stage l c.may_stand.result
+    (said-stands ws _ r.stage c.read_own-line.ensures.line c.may_stand.result
+    c.may_stand.ensures) c.is_bad.result
+    (said-bad ws _ r.schedulers c.read_own-line.ensures.line c.is_bad.result
+    c.is_bad.ensures) c.if-not-may_stand.false c.if-is_bad.true)
+
+pub returns-in_err-add-clause-sure : goal.returns-in_err-add-clause-sure
+returns-in_err-add-clause-sure c =
+    let r = c.args.self.now in
+    let ws = words c.args.text.now in
+    let l = line_of ws in
+    sure-none _ (refusal r.schedulers r.number r.stage l)
+    (none-refused r.schedulers r.number r.stage l c.may_stand.result
+    (said-stands ws _ r.stage c.read_own-line.ensures.line c.may_stand.result
+    c.may_stand.ensures) c.is_bad.result
+    (said-bad ws _ r.schedulers c.read_own-line.ensures.line c.is_bad.result
+    c.is_bad.ensures) c.if-not-may_stand.false c.if-is_bad.false)
+
+pub returns-in_err-add-clause-early : goal.returns-in_err-add-clause-early
+returns-in_err-add-clause-early c = λ left.
+    let r = c.args.self.now in
+    let ws = words c.args.text.now in
+    let l = line_of ws in
+    early-kept _ (refusal r.schedulers r.number r.stage l)
+    (early_refusal r.schedulers (next r.stage l) (r.number + 1) left) (is_kept l)
+    (none-refused r.schedulers r.number r.stage l c.may_stand.result
+    (said-stands ws _ r.stage c.read_own-line.ensures.line c.may_stand.result
+    c.may_stand.ensures) c.is_bad.result
+    (said-bad ws _ r.schedulers c.read_own-line.ensures.line c.is_bad.result
+    c.is_bad.ensures) c.if-not-may_stand.false c.if-is_bad.false)
+    (kept-is (is_kept l) (λ not. c.in_err-add.ensures.free (ap is_kept c.read_own-line.ensures.line
+    ∙ not)))
+
+pub returns-clause-sure : goal.returns-clause-sure
+returns-clause-sure c =
+    let r = c.args.self.now in
+    let ws = words c.args.text.now in
+    let l = line_of ws in
+    sure-none _ (refusal r.schedulers r.number r.stage l)
+    (none-refused r.schedulers r.number r.stage l c.may_stand.result
+    (said-stands ws _ r.stage c.read_own-line.ensures.line c.may_stand.result
+    c.may_stand.ensures) c.is_bad.result
+    (said-bad ws _ r.schedulers c.read_own-line.ensures.line c.is_bad.result
+    c.is_bad.ensures) c.if-not-may_stand.false c.if-is_bad.false)
+
+pub returns-clause-goes : goal.returns-clause-goes
+returns-clause-goes c = λ left.
+    let r = c.args.self.now in
+    let ws = words c.args.text.now in
+    let l = line_of ws in
+    subst (λ st. IfSome (early_left r (ws ∷ left))
+    (λ f. early_refusal r.schedulers st (r.number + 1) left ≡ Some f))
+    (sym (said-next ws _ r.stage c.read_own-line.ensures.line _ c.next-self.ensures))
+    (early-taken (refusal r.schedulers r.number r.stage l)
+    (early_refusal r.schedulers (next r.stage l) (r.number + 1) left) (is_kept l)
+    (none-refused r.schedulers r.number r.stage l c.may_stand.result
+    (said-stands ws _ r.stage c.read_own-line.ensures.line c.may_stand.result
+    c.may_stand.ensures) c.is_bad.result
+    (said-bad ws _ r.schedulers c.read_own-line.ensures.line c.is_bad.result
+    c.is_bad.ensures) c.if-not-may_stand.false c.if-is_bad.false))
