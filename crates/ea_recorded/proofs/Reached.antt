@@ -296,7 +296,7 @@ pub early-refused : (A : Type 0) (o later : Option TraceFault) (kept : Bool) (g 
     → o ≡ Some g
     → IfSome (or_later o kept later) (λ f. ◌≡◌ {A = Result A TraceFault} (Err g) (Err f))
 early-refused A None later kept g is = absurd cc
-early-refused A (Some f) later kept g is = ap Err (some-same g f (sym is))
+early-refused A (Some f) later kept g is = ap Err (some-same g f is)
   where
     some-same : (f g : TraceFault) → Some g ≡ Some f → f ≡ g
     some-same f g is = cc
@@ -333,6 +333,16 @@ pub left-refused : {A : Type 0} (whole before : Option TraceFault) (result : Res
 left-refused None before result left fails = tt
 left-refused (Some f) before result left fails =
     subst (λ o. IfSome o (λ f. result ≡ Err f)) left fails
+
+-- a line's refusal is that of the whole reading
+pub same-err : (A : Type 0) (whole : Option TraceFault) (g : TraceFault)
+    → IfSome whole (λ f. ◌≡◌ {A = Result (Unit {0}) TraceFault} (Err g) (Err f))
+    → IfSome whole (λ f. ◌≡◌ {A = Result A TraceFault} (Err g) (Err f))
+same-err A None g fails = tt
+same-err A (Some f) g fails = ap Err (one g f fails)
+  where
+    one : (f g : TraceFault) → ◌≡◌ {A = Result (Unit {0}) TraceFault} (Err f) (Err g) → f ≡ g
+    one f g is = cc
 
 -- a line's refusal by the reader's tests
 module _ (n number : ℕ) (stage : Stage) (l : RecordedLine) (stands : Bool)

@@ -10,7 +10,7 @@ use Rattle.ea_frame.specs.Lines.{rest_lines}
 use Rattle.ea_recorded.specs.Language.{Asked, recorded}
 use Rattle.ea_recorded.specs.Reading.{Reads, early_left, early_refusal_in}
 use Rattle.ea_recorded.proofs.Reached.{at-number, few-lines, fewer-left, left-first, left-next}
-use Rattle.ea_recorded.proofs.Reached.{left-refused}
+use Rattle.ea_recorded.proofs.Reached.{left-refused, same-err}
 use Rattle.ea_recorded.proofs.reader.read_recorded.Goals as goal
 
 pub loop-rest-init : goal.loop-rest-init
@@ -55,10 +55,10 @@ returns-in_err-take-clause-early c =
     ap rest_lines c.in-Some.is ∙ words-first c.in-Some.text.now c.first_line.result.0.now
     c.first_line.result.1 c.first_line.ensures.lines in
     let p = err_from_is_err_and c.from_residual.result c.from_residual.ensures.1 in
-    rw (p.1, p.2) (left-refused whole
+    rw (p.1, p.2) (same-err _ whole c.in_err-take.field-0.0 (left-refused whole
     (early_left reading (words c.first_line.result.0.now ∷ later)) _
     (subst (λ ls. IfSome whole (λ f. early_left reading ls ≡ Some f)) left
-    c.loop-rest.invariant.early) (c.in_err-take.ensures.early later))
+    c.loop-rest.invariant.early) (c.in_err-take.ensures.early later)))
 
 pub loop-rest-preserved : goal.loop-rest-preserved
 loop-rest-preserved c =

@@ -1,5 +1,6 @@
 use Rattle.std.proofs.Common.{◌≡◌, ◌+◌, ◌∷◌, ◌∙◌, Some, ap, refl, subst, sym}
 use Rattle.std.specs.Prelude.{IfSome}
+use Rattle.std.proofs.lemmas.Result.{err_from_is_err_and}
 use Rattle.ea_model.specs.Words.{words}
 use Rattle.ea_trace.specs.declared.fault.TraceFault.TheVariants as fault
 use Rattle.ea_recorded.specs.Language.{line_of, next, refusal}
@@ -98,11 +99,12 @@ returns-in_err-add-clause-sure c =
     c.is_bad.ensures) c.if-not-may_stand.false c.if-is_bad.false)
 
 pub returns-in_err-add-clause-early : goal.returns-in_err-add-clause-early
-returns-in_err-add-clause-early c = λ left.
+returns-in_err-add-clause-early c =
     let r = c.args.self.now in
     let ws = words c.args.text.now in
     let l = line_of ws in
-    early-kept _ (refusal r.schedulers r.number r.stage l)
+    let p = err_from_is_err_and c.from_residual.result c.from_residual.ensures.1 in
+    rw (p.1, p.2) (λ left. early-kept _ (refusal r.schedulers r.number r.stage l)
     (early_refusal r.schedulers (next r.stage l) (r.number + 1) left) (is_kept l)
     (none-refused r.schedulers r.number r.stage l c.may_stand.result
     (said-stands ws _ r.stage c.read_own-line.ensures.line c.may_stand.result
@@ -110,7 +112,7 @@ returns-in_err-add-clause-early c = λ left.
     (said-bad ws _ r.schedulers c.read_own-line.ensures.line c.is_bad.result
     c.is_bad.ensures) c.if-not-may_stand.false c.if-is_bad.false)
     (kept-is (is_kept l) (λ not. c.in_err-add.ensures.free (ap is_kept c.read_own-line.ensures.line
-    ∙ not)))
+    ∙ not))))
 
 pub returns-clause-sure : goal.returns-clause-sure
 returns-clause-sure c =
