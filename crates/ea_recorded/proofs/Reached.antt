@@ -365,9 +365,9 @@ sure-some A o g is =
 pub sure-none : (P : TraceFault → Type 0) (o : Option TraceFault) → o ≡ None → IfSome o P
 sure-none P o is = subst (λ p. IfSome p P) (sym is) tt
 
-pub kept-is : (b : Bool) → (b ≡ false → ⊥) → b ≡ true
+pub kept-is : (b : Bool) → (b ≡ false → false ≡ true) → b ≡ true
 kept-is true not = refl
-kept-is false not = absurd (not refl)
+kept-is false not = not refl
 
 -- with `end` there is no refusal at the end
 pub at-end-none : (P : TraceFault → Type 0) (o p : Option Letter) (x : Letter) → p ≡ o
