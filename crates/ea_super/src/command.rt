@@ -17,7 +17,8 @@ use std::thread::Threads;
 ///
 /// The status is 0 where the text was written; 1 where the words are refused; 2 where the input has
 /// more than 2^24 bytes or is refused; 3 where the source failed; 4 where `out` failed; 5 where
-/// there was no memory.
+/// there was no memory. It may be 5 in place of 2, since the whole input is kept before its first
+/// line is read; `read_sections` says which refusals need no memory beyond that.
 pub fn run_super<R: Threads + Wait + Sync, S: Source, O: Sink, E: Sink>(
     rt: &R,
     alloc: Global,

@@ -29,7 +29,7 @@ pub fn read_sections(
     ensures count { IfOk result (λ sections. length sections.items ≡ schedulers) }
     ensures few { IfOk result (λ sections. count_in sections.items ≤ MAX_OPS) }
     ensures asked { IfOk result (λ sections. All (λ s. AsksPages s.items) sections.items) }
-    ensures sure { IfSome (early_refusal_in bytes.now schedulers) (λ f. result ≡ Err f) }
+    ensures early { IfSome (early_refusal_in bytes.now schedulers) (λ f. result ≡ Err f) }
 {
     let mut seen = Seen::new(alloc, schedulers);
     let mut number = 0u32;

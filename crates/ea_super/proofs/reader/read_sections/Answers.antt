@@ -35,8 +35,8 @@ loop-rest-preserved c =
           (rw c.in-Some.is at c.loop-rest.invariant.fewer);
     }
 
-pub returns-in_err-take-clause-sure : goal.returns-in_err-take-clause-sure
-returns-in_err-take-clause-sure c =
+pub returns-in_err-take-clause-early : goal.returns-in_err-take-clause-early
+returns-in_err-take-clause-early c =
     let n = c.args.schedulers in
     let known = c.loop-rest.invariant.taken in
     let earlier : Earlier = known.0 in
@@ -59,7 +59,7 @@ returns c =
           known.1.schedulers c.finish.ensures.count;
       few = c.finish.ensures.few;
       asked = c.finish.ensures.asked;
-      sure = left-ends c.args.schedulers known.0 c.loop-rest.rest
+      early = left-ends c.args.schedulers known.0 c.loop-rest.rest
           (early_refusal_in c.args.bytes.now c.args.schedulers) c.finish.result c.in_default.is
           (rw known.1.stage at c.finish.ensures.sure) known.4;
     }
