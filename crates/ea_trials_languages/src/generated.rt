@@ -27,14 +27,6 @@ fn free(name: u32) -> Op {
     Op::Free { name }
 }
 
-fn give(name: u32, to: u32) -> Op {
-    Op::Give { name, to }
-}
-
-fn take(name: u32) -> Op {
-    Op::Take { name, tries: 1 }
-}
-
 #[test]
 fn one_scheduler_allocates_and_frees(rt: HostRuntime) -> Result<(), Fail> {
     worked_texts();
@@ -49,51 +41,5 @@ fn one_scheduler_allocates_and_frees(rt: HostRuntime) -> Result<(), Fail> {
     };
     let made = [alloc(1, 3632), alloc(2, 91268), free(1)];
     assert_eq!(rt; text.as_slice(), made.as_slice());
-    Ok(())
-}
-
-#[test]
-fn names_go_from_each_of_three_schedulers_to_the_next(rt: HostRuntime) -> Result<(), Fail> {
-    let trace = make_trace(rt.alloc(), Letter::B, 8, 3, 9)?;
-    assert_eq!(rt; trace.greatest, 27);
-    let texts = [
-        [
-            alloc(1, 81888),
-            alloc(2, 44620),
-            give(1, 2),
-            give(2, 2),
-            alloc(5, 88408),
-            free(5),
-            alloc(7, 52788),
-            alloc(8, 28584),
-            free(7),
-        ],
-        [
-            alloc(10, 18172),
-            take(1),
-            free(10),
-            take(2),
-            free(1),
-            alloc(15, 8936),
-            alloc(16, 80648),
-            alloc(17, 110368),
-            give(15, 3),
-        ],
-        [
-            alloc(19, 85524),
-            alloc(20, 50016),
-            alloc(21, 45484),
-            alloc(22, 17072),
-            alloc(23, 46688),
-            take(15),
-            free(19),
-            free(20),
-            alloc(27, 97380),
-        ],
-    ];
-    assert_eq!(rt; trace.texts.len(), texts.len());
-    for (text, made) in trace.texts.as_slice().iter().zip(texts.iter()) {
-        assert_eq!(rt; text.as_slice(), made.as_slice());
-    }
     Ok(())
 }
