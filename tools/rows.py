@@ -4,10 +4,11 @@ import os
 import stat
 import time
 from collections import Counter
+from dataclasses import replace
 
 from columns import DECIMALS
 from files import reason_of
-from program import OF_RECORDED, Ended, command_of, is_said, run, told_of
+from program import OF_RECORDED, Ended, command_of, is_said, run, told_of, with_schedulers
 from replay import UNITS_EVER, replay
 from texts import (
     BYTES_OF_A_UNIT, NUMBERS_OF_AN_INSTANCE, Settings, carrier_of, is_placed, owner_of, read_texts, read_traces,
@@ -245,6 +246,7 @@ def rows_of_run(program, flags, file, options):
     data, said = read_input(file)
     if data is None:
         return [{**empty_row(flags, file), "status": None, "said": said}]
+    flags = replace(flags, words=with_schedulers(flags.words, data))
     if not options.marks:
         return rows_of_input(program, flags, empty_row(flags, file), data, options.seconds)
     rows = []
