@@ -102,10 +102,16 @@ def kept_program():
     """The path of the program that ./run runs: a proved one where there is one, else one that it compiles, which it
     says on standard error."""
     words = [f"{TOP}/run", "--path"]
-    ran = subprocess.run(words, stdin=subprocess.DEVNULL, stdout=subprocess.PIPE, check=False)
-    if ran.returncode == NOT_BUILT:
+    with subprocess.Popen(words, stdin=subprocess.DEVNULL, stdout=subprocess.PIPE) as child:
+        try:
+            path, _ = child.communicate()
+        except BaseException:
+            # By this signal it ends what it has started, too.
+            child.terminate()
+            raise
+    if child.returncode:
         raise Refused(f"{TOP}/run: the program could not be built")
-    return os.fsdecode(ran.stdout.removesuffix(b"\n"))
+    return os.fsdecode(path.removesuffix(b"\n"))
 
 
 def find_program(given):
