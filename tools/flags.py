@@ -1,8 +1,8 @@
 #!/usr/bin/env python3
 """The settings that hold for an allocator under accepted flags, and notes on flags that do not do what they say.
 
-flags.py WORDS prints the notes on the words of ./run, a line each. Those that depend on the allocator types of the input
-are printed only where standard input is a file, which is read from where it is, and left there.
+flags.py WORDS prints the notes on the words of ./run, a line each. The allocator types of the input are known only
+where standard input is a file, which is read from where it is, and left there.
 """
 import os
 import stat
@@ -152,9 +152,11 @@ def notes_on_letters(words, letters):
     """On the flags of letters that the input does not have."""
     named = dict.fromkeys(it[1] for it in map(OWN_FLAG.match, words[::2]) if it)
     others = [f"+M{it}" for it in named if it not in letters and (it != ALL or not letters)]
+    why = "super has no allocators"
+    if letters:
+        why = f"the input is of {'types' if len(letters) > 1 else 'type'} {listed(letters)}"
     if others:
-        has = f"the input is of type{'s' * (len(letters) > 1)} {listed(letters)}" if letters else "super has no allocators"
-        yield f"{listed(others)} flags change nothing here: {has}"
+        yield f"{listed(others)} flags change nothing here: {why}"
 
 
 def notes_on(words, letters):
