@@ -321,7 +321,7 @@ class Compare(unittest.TestCase):
 
     def test_a_note_of_run_is_nothing_that_the_program_said(self):
         """Where ./run itself is the program, it has notes on standard error, at status 0."""
-        self.file("noting", f'#!/bin/sh\necho "note: this" >&2\nexec {shlex.quote(program())} "$@"\n')
+        self.file("noting", f'#!/bin/sh\n[ $# -eq 0 ] || echo "note: this" >&2\nexec {shlex.quote(program())} "$@"\n')
         os.chmod(f"{self.room}/noting", 0o755)
         self.assertRow(self.row(one("idle"), "--program", "./noting", "--each", "+MHas gf"), said=None, ran="aoffcbf 60")
 

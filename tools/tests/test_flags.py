@@ -236,7 +236,7 @@ class Input(unittest.TestCase):
             self.assertEqual(letters_of(text.encode().split(b"\n")), [*letters], text)
 
     def said(self, *words, **how):
-        """What the command says, and how many bytes of standard input are left."""
+        """What the command says."""
         ran = subprocess.run([sys.executable, "-B", f"{TOP}/tools/flags.py", *words], stdout=subprocess.PIPE, check=True,
                              **how)
         return ran.stdout.decode()
@@ -260,7 +260,8 @@ class Input(unittest.TestCase):
     def test_the_command_comes_first(self):
         with open(f"{TOP}/examples/two-allocators.trace", "rb") as file:
             said = self.said("types", "+MHas", "gf", "+MEsbct", "1", stdin=file)
-        self.assertEqual(said, f"note: {GF_IS_REPLACED}\nnote: +ME flags change nothing here: the input is of types H and B\n")
+        nothing = "+ME flags change nothing here: the input is of types H and B"
+        self.assertEqual(said, f"note: {GF_IS_REPLACED}\nnote: {nothing}\n")
         said = self.said("super", "+MHas", "aoff", stdin=subprocess.DEVNULL)
         self.assertEqual(said, "note: +MH flags change nothing here: super has no allocators\n")
 
