@@ -323,7 +323,8 @@ class Compare(unittest.TestCase):
         """Where ./run itself is the program, it has notes on standard error, at status 0."""
         self.file("noting", f'#!/bin/sh\n[ $# -eq 0 ] || echo "note: this" >&2\nexec {shlex.quote(program())} "$@"\n')
         os.chmod(f"{self.room}/noting", 0o755)
-        self.assertRow(self.row(one("idle"), "--program", "./noting", "--each", "+MHas gf"), said=None, ran="aoffcbf 60")
+        row = self.row(one("idle"), "--program", "./noting", "--each", "+MHas gf")
+        self.assertRow(row, said=None, ran="aoffcbf 60")
 
     # Memory, blocks and gaps
 

@@ -28,8 +28,9 @@ SMALL = "+MMscs 2 +Musmbcs 8 +Mulmbcs 8"
 SMALL_SIZES = 40, 100, 200, 300, 700, 2000, 3000, 4000
 # Prints the strategy and the limit of binary_alloc's first instance.
 ASK_NODE = """
-[_, {instance, 1, Parts} | _] = erlang:system_info({allocator, binary_alloc}), {options, All} = lists:keyfind(options, 1,
-Parts), io:format("~p ~p", [element(2, lists:keyfind(It, 1, All)) || It <- [as, acul]]), halt()."""
+[_, {instance, 1, Parts} | _] = erlang:system_info({allocator, binary_alloc}),
+{options, All} = lists:keyfind(options, 1, Parts),
+io:format("~p ~p", [element(2, lists:keyfind(It, 1, All)) || It <- [as, acul]]), halt()."""
 GF_IS_REPLACED = "+MHas gf with acul 60 runs as aoffcbf; a node would set acul 0: add +MHacul 0"
 
 
@@ -105,7 +106,7 @@ class Program(unittest.TestCase):
         self.assertTrue(all(it.startswith("scheduler 1\n") for it in texts))
 
     def test_what_ran(self):
-        """Under each strategy and limit, in both orders, the text is that of the strategy and the limit that `ran` says."""
+        """The text is that of the strategy and the limit that `ran` says."""
         of_ran = {}
         for letter in "HT":
             for strategy in FREE + BOUND:
@@ -130,8 +131,8 @@ class Program(unittest.TestCase):
         values = {
             "as": FREE + BOUND, "acul": ["0", "25", "60", "de"], "sbct": ["1", "2", "512"], "smbcs": ["4", "8", "64"],
             "lmbcs": ["4", "64", "5120"], "acfml": ["0", "500"], "mbcgs": ["1", "10"], "mmbcs": ["0", "20"],
-            "mbsd": ["1", "3"], "asbcst": ["0", "1024"], "rsbcst": ["0", "20"], "rsbcmt": ["0", "80"], "rmbcmt": ["0", "50"],
-            "ramv": ["true", "false"],
+            "mbsd": ["1", "3"], "asbcst": ["0", "1024"], "rsbcst": ["0", "20"], "rsbcmt": ["0", "80"],
+            "rmbcmt": ["0", "50"], "ramv": ["true", "false"],
         }
         self.assertEqual(values.keys(), DEFAULTS.keys())
         small, large = small_trace("H"), large_trace()
@@ -216,11 +217,11 @@ class Node(unittest.TestCase):
             ("+Muas bf +Muacul 30", "aoffcbf 30"),
             ("+MBas gf +MBacul 30 +MBas gf", "gf 0"),
         ):
-            ran = subprocess.run([ERL, "+S", "2:2", *words.split(), "-noshell", "-eval", ASK_NODE], capture_output=True,
-                                 text=True, timeout=60, check=True)
+            command = [ERL, "+S", "2:2", *words.split(), "-noshell", "-eval", ASK_NODE]
+            ran = subprocess.run(command, capture_output=True, text=True, timeout=60, check=True)
             self.assertEqual(ran.stdout, node, words)
             [said] = notes(words, "B")
-            self.assertEqual(", on a node too: " in said, node != f"{Settings.of(words.split(), 'B').asked('as')} 0", words)
+            self.assertEqual(", on a node too: " in said, node == Settings.of(words.split(), "B").ran(), words)
             self.assertEqual("; a node would set acul 0: " in said, node.endswith(" 0"), words)
 
 
@@ -237,9 +238,8 @@ class Input(unittest.TestCase):
 
     def said(self, *words, **how):
         """What the command says."""
-        ran = subprocess.run([sys.executable, "-B", f"{TOP}/tools/flags.py", *words], stdout=subprocess.PIPE, check=True,
-                             **how)
-        return ran.stdout.decode()
+        command = [sys.executable, "-B", f"{TOP}/tools/flags.py", *words]
+        return subprocess.run(command, stdout=subprocess.PIPE, check=True, **how).stdout.decode()
 
     def test_a_file_is_read_from_where_it_is_and_left_there(self):
         with tempfile.TemporaryFile(buffering=0) as file:
