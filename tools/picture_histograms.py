@@ -4,6 +4,7 @@ import os
 import re
 from dataclasses import dataclass
 
+from flags import Settings, letters_of
 from picture_run import plural
 from picture_svg import MARGIN, flags_words, heading_of, rectangle, shape, svg_of, words_at
 from picture_text import is_of_region
@@ -65,12 +66,12 @@ def axis_at(x, y):
         yield words_at("small", x + BAR * at, y, str(FIRST_BORDER << (at - 1) if at else 0))
 
 
-def drawing_of(name, words, histograms):
+def drawing_of(name, said, histograms):
     """The histograms of a run, those of all carriers together first."""
     shown = [histograms[-1], *histograms[:-1][:MOST_HISTOGRAMS]]
     most = max([1, *histograms[-1].blocks, *histograms[-1].gaps])
     places = {"blocks": MARGIN + LEFT, "gaps": MARGIN + LEFT + BAR * INTERVALS + BETWEEN}
-    parts, y = heading_of(f"{os.path.basename(name)}: sizes of blocks and gaps at the end", flags_words(words), MARGIN)
+    parts, y = heading_of(f"{os.path.basename(name)}: sizes of blocks and gaps at the end", said, MARGIN)
     parts += [words_at("", x, y + 12, kind) for kind, x in places.items()]
     for it in shown:
         y += ROW
@@ -91,4 +92,5 @@ def drawn_histograms(given, program, data):
     if command:
         raise Refused(f"{given.trace}: --histograms draws those of a trace, and this is an input of `{command}`")
     found = read_histograms(program.run(data, given.trace, OF_HISTOGRAMS))
-    yield given.histograms, drawing_of(given.trace, program.words, found)
+    settings = Settings.of(program.words, letters_of(data.split(b"\n"))[0])
+    yield given.histograms, drawing_of(given.trace, flags_words(program.words, settings), found)

@@ -38,6 +38,7 @@ def page_data(run):
     return {
         "name": os.path.basename(run.name),
         "flags": " ".join(run.program.words),
+        "held": run.settings.told(),
         "letter": run.trace.letter,
         "schedulers": len(run.trace.sections),
         "megabytes": run.settings.megabytes,

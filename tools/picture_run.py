@@ -6,10 +6,11 @@ import re
 from collections import defaultdict
 from dataclasses import dataclass
 
+from flags import Settings
 from picture_order import Order, Replay, hints, recorded_order
 from picture_text import begun_at, is_stop, live_of, read_entry, read_log, read_text
 from refused import Refused
-from texts import Settings, read_carrier
+from texts import read_carrier
 
 MOST_SUBSETS = 2**12
 WITHOUT_ORDER = (

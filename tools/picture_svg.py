@@ -129,8 +129,10 @@ def mark_at(x, y):
     return f'<polygon class="sign kept" points="{" ".join(f"{shape(it)},{shape(at)}" for it, at in corners)}"/>'
 
 
-def flags_words(words):
-    return " ".join(words) or "no flags"
+def flags_words(words, settings=None):
+    """The flags, and the settings that hold under them."""
+    said = " ".join(words) or "no flags"
+    return f"{said} · held: {settings.told()}" if settings else said
 
 
 def megabytes(units):
@@ -208,7 +210,7 @@ class Drawing:
         run, figures = self.run, self.run.figures(self.moment)
         names = ("units", "live", "queued", "free")
         said = " · ".join(f"{it} {figures[it]:,} ({megabytes(figures[it])})" for it in names)
-        said = f"{flags_words(run.program.words)} · carriers {figures['carriers']:,} · {said}"
+        said = f"{flags_words(run.program.words, run.settings)} · carriers {figures['carriers']:,} · {said}"
         parts, self.y = heading_of(f"{os.path.basename(run.name)}: {self.title()}", said, self.y)
         self.parts += parts
 

@@ -2,8 +2,9 @@
 from collections import Counter
 from dataclasses import dataclass
 
+from flags import Settings
 from program import run
-from texts import Settings, carrier_of, figure, is_placed, owner_of, read_text
+from texts import carrier_of, figure, is_placed, owner_of, read_text
 
 MOST_OPERATIONS = 2**20
 LARGEST_INPUT = 2**24

@@ -8,10 +8,11 @@ from dataclasses import replace
 
 from columns import DECIMALS
 from files import reason_of
+from flags import Settings
 from program import OF_RECORDED, Ended, command_of, is_said, run, told_of, with_schedulers
 from replay import UNITS_EVER, replay
 from texts import (
-    BYTES_OF_A_UNIT, NUMBERS_OF_AN_INSTANCE, Settings, carrier_of, is_placed, owner_of, read_texts, read_traces,
+    BYTES_OF_A_UNIT, NUMBERS_OF_AN_INSTANCE, carrier_of, is_placed, owner_of, read_texts, read_traces,
 )
 
 UNITS_OF_A_MB = 2**17
@@ -204,7 +205,7 @@ def run_program(program, words, data, seconds):
         return None, b"", str(ended), None
     except OSError as error:
         return None, b"", f"{error.filename or program}: {reason_of(error)}", None
-    said = told_of(ran.stderr)
+    said = told_of(ran.stderr) if ran.returncode else ""
     if ran.returncode < 0:
         said = f"ended by signal {-ran.returncode}"
     return ran.returncode, ran.stdout, said, time.perf_counter() - began
@@ -218,9 +219,9 @@ def columns_of(program, words, trace, text, seconds):
     """The columns of a trace that was run, or of one type of several."""
     trace.sections += [[] for _ in text.logs[len(trace.sections) :] if trace.sections]
     found = replay(program, words, trace, text, seconds) if trace.has_one_order() else None
-    migrates = Settings.of(words, trace.letter).migrates
-    of_time = replayed(found) if found else bounded(trace, text, migrates)
-    return {"type": trace.letter, **counted(trace, text), **of_time, "mb_most": megabytes(of_time.get("units_most"))}
+    settings = Settings.of(words, trace.letter)
+    of_time = replayed(found) if found else bounded(trace, text, settings.migrates)
+    return {"type": trace.letter, "ran": settings.ran(), **counted(trace, text), **of_time, "mb_most": megabytes(of_time.get("units_most"))}
 
 
 def rows_of_input(program, flags, row, data, seconds):

@@ -5,9 +5,7 @@ from dataclasses import dataclass, field, replace
 from program import OF_RECORDED, command_of, is_said
 
 BYTES_OF_A_UNIT = 8
-UNITS_OF_A_KB = 128
 UNITS_OF_A_PAGE = 512
-PAGES_OF_A_MB = 256
 NUMBERS_OF_AN_INSTANCE = 1024
 SMALLEST_BLOCK = 6
 NUMBER = "(0|[1-9][0-9]{0,11})"
@@ -202,41 +200,3 @@ def is_placed(entry):
 def carrier_of(entry):
     """The number of the carrier where it does."""
     return int(entry[2] if entry[0] == "alloc" else entry[3])
-
-
-# Flags
-
-
-@dataclass
-class Settings:
-    """What the words of accepted flags set, for the trace's letter."""
-
-    schedulers: int = 1
-    megabytes: int = 64
-    threshold: int = 512 * UNITS_OF_A_KB
-    limit: int = 60
-
-    @staticmethod
-    def of(words, letter):
-        found = Settings()
-        for flag, value in zip(words[::2], words[1::2]):
-            name = flag[3:] if flag[2:3] in (letter, "u") else ""
-            if flag == "+S":
-                found.schedulers = int(value)
-            elif flag == "+MMscs":
-                found.megabytes = int(value)
-            elif name == "sbct":
-                found.threshold = int(value) * UNITS_OF_A_KB
-            elif name == "acul":
-                found.limit = 60 if value == "de" else int(value)
-        found.limit = 0 if letter == "T" else found.limit
-        return found
-
-    @property
-    def region(self):
-        """The pages of each region."""
-        return self.megabytes * PAGES_OF_A_MB // self.schedulers
-
-    @property
-    def migrates(self):
-        return self.limit > 0

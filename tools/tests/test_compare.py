@@ -259,6 +259,73 @@ class Compare(unittest.TestCase):
         self.assertRow(roomy, carriers_most=None, units_most=None, failed_space=None, abandoned=0, fetched=0)
         self.assertGreaterEqual(tight["failed"], 578)
 
+    # What ran
+
+    def ran(self, text, *words):
+        return [it["ran"] for it in self.rows(self.file("a.trace", text), *words)]
+
+    def test_what_ran(self):
+        for letter, acul, wanted in (
+            ("H", "", "aoffcbf 60, aoffcbf 60, ageffcbf 60"),
+            ("H", "+MHacul 0", "gf 0, bf 0, ageffcbf 0"),
+            ("H", "+MBacul 0 +Muacul 25", "aoffcbf 25, aoffcbf 25, ageffcbf 25"),
+            ("T", "+MTacul 60", "gf 0, bf 0, ageffcbf 0"),
+        ):
+            words = ["--each", f"+M{letter}as gf bf ageffcbf", "--all", acul]
+            found = self.ran(one("alloc 1 100").replace("type H", f"type {letter}"), *words)
+            self.assertEqual(", ".join(found), wanted, acul)
+
+    def test_what_ran_of_each_type(self):
+        trace = several("H B T", ["H alloc 1 100", "B alloc 1 100", "T alloc 1 100"])
+        self.assertEqual(self.ran(trace, "--each", "+Muas af", "--each", "+MHacul 0"), ["af 0", "aoffcbf 60", "af 0"])
+
+    def test_lists_that_ran_alike_have_the_same_figures(self):
+        """Where `ran` is the same of two lists that differ in as and acul alone, so is all else."""
+        with open(f"{EXAMPLES}/busy-days.trace", encoding="utf-8") as source:
+            trace = source.read()
+        rows = self.rows(self.file("a.trace", trace), "--each", f"+MHas {STRATEGIES}", "--each", "+MHacul 60 de 0",
+                         "--each", "+MHlmbcs 512")
+        figures = {}
+        for it in rows:
+            it = {name: value for name, value in it.items() if name not in ("list", "flags", "seconds")}
+            self.assertEqual(figures.setdefault(it["ran"], it), it)
+        # Six strategies with each limit, and four without migration alone.
+        self.assertEqual(len(figures), 6 * 2 + 4)
+        self.assertNotEqual(figures["gf 0"], {**figures["aoffcbf 60"], "ran": "gf 0"})
+
+    def test_of_what_did_not_run_it_is_not_known(self):
+        [good, bad] = self.rows(self.file("a.trace", one("idle")), "--each", "+MHas aoff ff", status=1)
+        self.assertEqual((good["ran"], bad["ran"]), ("aoff 60", None))
+
+    def test_notes_on_flags_stand_below_the_text(self):
+        note = "{0} with acul 60 runs as aoffcbf; a node would set acul 0: add +MHacul 0.".format
+        letter = "+MB flags change nothing here: the input is of type H."
+        trace = self.file("a.trace", one("idle"))
+        words = ["--each", "+MHas gf bf aoff", "--each", "+MBsbct 1 2", "--columns", "ran"]
+        status, text, said = self.compare(trace, *words)
+        self.assertEqual((status, said), (0, ""))
+        ran = "".join(f"{it}\n" for it in ["ran", *["aoffcbf 60"] * 4, *["aoff 60"] * 2])
+        self.assertEqual(text.partition("\n\n")[0] + "\n", ran)
+        self.assertEqual(text.partition("\n\n")[2].splitlines(), [note("+MHas gf"), letter, note("+MHas bf")])
+        # Results are noted in the same way, and other forms have no notes.
+        self.file("a.json", self.compare(trace, *words[:4], "--as", "json")[1])
+        self.assertEqual(self.compare("--from", "a.json", "--columns", "ran"), (0, text, ""))
+        self.assertEqual(self.compare(trace, *words, "--as", "csv")[1], ran)
+
+    def test_notes_name_the_trace_where_there_are_several(self):
+        traces = [self.file("a.trace", one("idle")), self.file("b.trace", one("idle").replace("type H", "type B"))]
+        text = self.compare(*traces, "--each", "+MBas gf", "--columns", "ran")[1]
+        self.assertEqual(text.partition("\n\n")[2].splitlines(), [
+            "a.trace: +MB flags change nothing here: the input is of type H.",
+            "b.trace: +MBas gf with acul 60 runs as aoffcbf; a node would set acul 0: add +MBacul 0."])
+
+    def test_a_note_of_run_is_nothing_that_the_program_said(self):
+        """Where ./run itself is the program, it has notes on standard error, at status 0."""
+        self.file("noting", f'#!/bin/sh\n[ $# -eq 0 ] || echo "note: this" >&2\nexec {shlex.quote(program())} "$@"\n')
+        os.chmod(f"{self.room}/noting", 0o755)
+        row = self.row(one("idle"), "--program", "./noting", "--each", "+MHas gf")
+        self.assertRow(row, said=None, ran="aoffcbf 60")
+
     # Memory, blocks and gaps
 
     def test_megabytes(self):
@@ -491,7 +558,8 @@ class Compare(unittest.TestCase):
         words = ["--each", "+MHas bf ff", "--columns", "list,status"]
         status, text, said = self.compare(self.file("a.trace", one()), *words)
         self.assertEqual((status, said), (1, f"compare: --each '+MHas ff': ff: bad value\n{NO_STRATEGY}"))
-        self.assertEqual(text, "list      status\n+MHas bf       0\n+MHas ff       1\n")
+        note = "+MHas bf with acul 60 runs as aoffcbf; a node would set acul 0: add +MHacul 0.\n"
+        self.assertEqual(text, f"list      status\n+MHas bf       0\n+MHas ff       1\n\n{note}")
 
     def test_a_main_carrier_that_does_not_fit(self):
         said = self.compare(self.file("a.trace", one()), "--each", "+MMscs 1", "--each", "+MHmmbcs 2000")[2]
@@ -658,6 +726,21 @@ class Compare(unittest.TestCase):
             section = source.read().partition("\n## The tools: compare\n")[2].partition("\n## ")[0]
         self.assertEqual([it for it in names if f"`{it}`" not in section], [])
         self.assertIn("utilisation_most", names)
+
+    def test_the_examples_of_help(self):
+        """Its first table has lists that differ in what ran and in its figures; its commands are lines of shell."""
+        lines = [it.strip() for it in self.compare("--help")[1].splitlines() if it.startswith("  tools/compare ")]
+        first, commands, _ = lines
+        words = shlex.split(first)[1:]
+        cut = words.index("--")
+        status, text, said = self.compare(*words[:cut], "--as", "json", *words[cut:], folder=TOP)
+        self.assertEqual((status, said), (0, ""))
+        rows = json.loads(text)
+        self.assertEqual([it["ran"] for it in rows], ["gf 0", "gf 0", "bf 0", "bf 0"])
+        figures = {(it["mb_most"], it["mb_end"], it["carriers_end"], it["blocks_single"]) for it in rows}
+        self.assertEqual(len(figures), len(rows))
+        status, text, said = self.compare(*shlex.split(commands.partition(" | ")[0])[1:])
+        self.assertEqual((status, said, len(text.splitlines())), (0, "", 4))
 
 
 if __name__ == "__main__":

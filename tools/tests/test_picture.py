@@ -219,6 +219,50 @@ class Places(Case):
         self.assertEqual(self.data("--trace", self.trace(*operations), "--", *flags)["unknown"], 0)
 
 
+class Heads(Case):
+    """What a head says of the settings."""
+
+    SIZES = "sbct 512, smbcs 256, lmbcs 5120"
+
+    def head(self, name):
+        """The words below the title of an SVG, up to what is counted there."""
+        lines = re.findall('<text class="small"[^>]*>([^<]*)</text>', self.read(name))
+        return " ".join(lines).partition(" · carriers")[0]
+
+    def test_the_settings_that_held(self):
+        trace = self.trace("alloc 1 100")
+        for flags, held in (
+            ("", f"as aoffcbf, acul 60, {self.SIZES}"),
+            ("+MHas gf", f"as aoffcbf, acul 60, {self.SIZES}"),
+            ("+MHas gf +MHacul 0", f"as gf, acul 0, {self.SIZES}"),
+            ("+Muas af +MHacul 0 +MBsbct 1 +MHmbcgs 5", f"as af, acul 0, {self.SIZES}, mbcgs 5"),
+        ):
+            svg, page, bars = "a.svg", "a.html", "b.svg"
+            self.draw("--trace", trace, "--svg", self.path(svg), "--output", self.path(page), "--histograms",
+                      self.path(bars), "--", *flags.split())
+            wanted = f"{flags or 'no flags'} · held: {held}"
+            self.assertEqual(self.head(svg), wanted)
+            self.assertTrue(self.head(bars).startswith(wanted), flags)
+            data = data_in(self.read(page))
+            self.assertEqual((data["flags"], data["held"]), (flags, held))
+
+    def test_the_page_shows_them(self):
+        self.draw("--trace", self.trace("alloc 1 100"), "--output", self.path("a.html"))
+        self.assertIn('at("about").textContent = [D.flags || "no flags", `held: ${D.held}`,', self.read("a.html"))
+
+    def test_each_type_has_its_own(self):
+        lines = "types H T", "scheduler 1", "H alloc 1 100", "T alloc 1 100", "schedule", "end", ""
+        trace = self.write("a.trace", "\n".join(lines))
+        self.draw("--trace", trace, "--svg", self.path("a.svg"), "--", "+Muas", "bf", "+MTsbct", "64")
+        self.assertIn(f"held: as aoffcbf, acul 60, {self.SIZES}", self.head("a.H.svg"))
+        self.assertIn("held: as bf, acul 0, sbct 64, smbcs 256, lmbcs 5120", self.head("a.T.svg"))
+
+    def test_a_region_has_none(self):
+        trace = self.write("a.input", "super\nscheduler 1\ntake 1 10\nend\n")
+        self.draw("--trace", trace, "--svg", self.path("a.svg"), "--", "+MHas", "gf")
+        self.assertNotIn("held: ", self.read("a.svg"))
+
+
 class Schedulers(Case):
     def test_the_end_is_that_of_the_text(self):
         migrating = "returned-too-late", "higher-acul.acul60", "freed-in-the-pool", "lost-fetch"
