@@ -305,7 +305,7 @@ def of_line(kind, at, command, words, data):
         return whole[kind]
     lines = [words_of(it) for it in data.split(b"\n")] if data is not None else []
     if not 0 < at <= len(lines) or not lines[at - 1]:
-        return "docs/FORMATS.md says what a line may be"
+        return "docs/reference/trace.md says what a line may be"
     before, line = lines[: at - 1], lines[at - 1]
     if kind == "bad scheduler":
         return of_scheduler(before, schedulers_of(words), command)

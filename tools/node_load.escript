@@ -31,7 +31,7 @@ usage() ->
     "usage: escript tools/node_load.escript NODE COOKIE ALLOCATOR FILE\n"
     "\n"
     "Asks a live node for the sizes of the blocks of an allocator, and for its carriers, and writes\n"
-    "them to FILE as docs/FORMATS.md says ('The tools: load'). tools/load makes a trace of it.\n"
+    "them to FILE as docs/reference/tools.md says ('load'). tools/load makes a trace of it.\n"
     "\n"
     "NODE       the node's name as node() tells it, as shop@host or shop@host.example.org\n"
     "COOKIE     its cookie; - for the one of ~/.erlang.cookie, which no list of processes shows\n"

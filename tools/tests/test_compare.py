@@ -1,7 +1,7 @@
 #!/usr/bin/env python3
 """Tests of tools/compare: python3 tools/tests/test_compare.py [PROGRAM], without which ./run is asked for it.
 
-What is expected was worked out by hand from docs/FORMATS.md, or is counted here from runs of the program on the fronts
+What is expected was worked out by hand from docs/reference, or is counted here from runs of the program on the fronts
 of a trace; nothing is taken from the tool. The last line is 'N passed, M failed'.
 """
 import csv
@@ -253,7 +253,7 @@ class Compare(unittest.TestCase):
     def test_a_generated_trace(self):
         words = ["--each", "+S 2", *KEPT_APART, "--each", "+MMscs 64 1"]
         roomy, tight = self.rows(self.file("a.trace", "type H\ngenerate 7 1000\nend\n"), *words)
-        # Of docs/FORMATS.md: 5786268 live and 261192 queued of 6262784 units are 96.56 percent.
+        # Of docs/reference/output.md: 5786268 live and 261192 queued of 6262784 units are 96.56 percent.
         self.assertRow(roomy, carriers_end=20, units_end=6262784, utilisation_end=96.5, queued=261192)
         self.assertRow(roomy, failed=0, moved=0, returned=0)
         self.assertRow(roomy, carriers_most=None, units_most=None, failed_space=None, abandoned=0, fetched=0)
@@ -722,8 +722,8 @@ class Compare(unittest.TestCase):
         status, text, said = self.compare("--help")
         self.assertEqual((status, said), (0, ""))
         names = [it.split()[0] for it in text.partition("\nColumns:\n")[2].partition("\n\n")[0].splitlines()]
-        with open(f"{TOP}/docs/FORMATS.md", encoding="utf-8") as source:
-            section = source.read().partition("\n## The tools: compare\n")[2].partition("\n## ")[0]
+        with open(f"{TOP}/docs/reference/tools.md", encoding="utf-8") as source:
+            section = source.read().partition("\n## compare\n")[2].partition("\n## ")[0]
         self.assertEqual([it for it in names if f"`{it}`" not in section], [])
         self.assertIn("utilisation_most", names)
 

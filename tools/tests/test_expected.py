@@ -1,7 +1,7 @@
 #!/usr/bin/env python3
 """Tests of tools/expected.py: python3 tools/tests/test_expected.py [PROGRAM].
 
-Each refusal of docs/FORMATS.md's tables of flags is compared with what expected.py takes it for; the sentences are this
+Each refusal of docs/reference/flags.md's tables is compared with what expected.py takes it for; the sentences are this
 file's. PROGRAM is asked for the lines, if it is there. The last line is 'N passed, M failed'.
 """
 import os
@@ -17,23 +17,41 @@ from counted import run_tests
 from expected import explained, refusal
 
 PROGRAM = os.path.abspath(sys.argv.pop(1)) if len(sys.argv) > 1 else None
+# Beside those of the document.
+REFUSED_WORDS = (
+    ("+MHacful 0", "word 1: unknown flag"),
+    ("+MHas bf bf", "word 3: unknown flag"),
+    ("--help", "word 1: unknown flag"),
+    ("+MHacul", "word 1: value missing"),
+    ("+MHas ff", "word 2: bad value"),
+    ("+MMscs 0", "word 2: bad value"),
+    ("+MHacnl 999", "word 1: unsupported"),
+    ("+MMsco false", "word 1: unsupported"),
+    ("+MHt no", "word 2: bad value"),
+    ("+MFas bf", "word 1: unsupported"),
+    ("+MMscsx 1", "word 1: unsupported"),
+    ("+MMscs 1 +MHmmbcs 1025", "super carrier too small"),
+)
 TAKES = "+MHas takes bf aobf aoff aoffcbf aoffcaobf ageffcaoff ageffcbf ageffcaobf gf af"
 
 
 def rows_of_manual():
-    """The words and lines of the table of refused words in docs/FORMATS.md."""
-    with open(f"{TOP}/docs/FORMATS.md", encoding="utf-8") as source:
-        section = source.read().partition("\n### Refusals\n")[2].partition("\n## ")[0]
+    """The words and lines of the table of refused words in docs/reference/flags.md."""
+    with open(f"{TOP}/docs/reference/flags.md", encoding="utf-8") as source:
+        section = source.read().partition("\n## Refusals\n")[2].partition("\n## ")[0]
     return re.findall(r"^\| `(\+[^`]*|--help)` \| `([^`]*)` \|", section, re.M)
 
 
 class Words(unittest.TestCase):
     def test_the_lines_of_the_manual(self):
         rows = rows_of_manual()
-        self.assertGreater(len(rows), 18)
-        for words, line in rows:
+        self.assertGreater(len(rows), 8)
+        for words, line in (*rows, *REFUSED_WORDS):
             if line != "super carrier too small":
                 self.assertEqual((refusal(words.split()) or ("",))[0], line, words)
+            if PROGRAM:
+                ran = subprocess.run([PROGRAM, *words.split()], input="", capture_output=True, text=True, check=False)
+                self.assertEqual((ran.returncode, ran.stderr), (1, f"erts_alloc_run: {line}\n"), words)
 
     def test_what_is_accepted(self):
         for words in ("", "+S 64 +MMscs 512", "+MHas gf +Muacul de", "+MHacnl 1000 +MMsco true +MBt true", "+S 0000000001"):
@@ -146,7 +164,7 @@ class Lines(unittest.TestCase):
 
     def test_what_is_not_known(self):
         self.assertIsNone(explained("out of memory", [], None))
-        self.assertEqual(explained("line 3: syntax", [], None), "docs/FORMATS.md says what a line may be")
+        self.assertEqual(explained("line 3: syntax", [], None), "docs/reference/trace.md says what a line may be")
 
 
 if __name__ == "__main__":

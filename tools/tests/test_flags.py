@@ -185,6 +185,7 @@ class Notes(unittest.TestCase):
             ("+MTe true +MDe true +MBe true", "H", [nothing("+MT, +MD and +MB", "type H")]),
             ("+MTe true +MDe true", "TH", [nothing("+MD", "types T and H")]),
             ("+MMscs 3 +MHsbct 1 +Muacul 0", "", ["+MH and +Mu flags change nothing here: super has no allocators"]),
+            ("+MMscs 3 +MHas gf", "", ["+MH flags change nothing here: super has no allocators"]),
             ("+MMscs 3 +S 2", "", []),
         ):
             self.assertEqual(notes(words, *letters), wanted, words)

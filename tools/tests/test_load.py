@@ -3,7 +3,7 @@
 
 PROGRAM runs the traces; without it, the one that `rt ci` left in crates/erts_alloc_run/out is taken. What wants a
 program, or an erl, is skipped with a line where there is none. What is expected is worked out by hand of
-docs/FORMATS.md and of the help of the tool; bounds of what is random are five standard deviations.
+docs/reference and of the help of the tool; bounds of what is random are five standard deviations.
 """
 import collections
 import contextlib
@@ -64,7 +64,7 @@ def within(seconds, attempt):
 
 
 class Trace:
-    """A trace, read by the rules of docs/FORMATS.md: what breaks one of them fails the test."""
+    """A trace, read by the rules of docs/reference/trace.md: what breaks one of them fails the test."""
 
     def __init__(self, test, text, schedulers):
         self.test, self.schedulers = test, schedulers

@@ -2,7 +2,7 @@
 """Tests tools/picture: python3 tools/tests/test_picture.py [PROGRAM].
 
 Without PROGRAM the tool takes the one that ./run keeps. What is expected is worked out by hand, from the rules in
-docs/FORMATS.md, or read from the program's text by this file's own reading. The tests with a browser are skipped where
+docs/reference, or read from the program's text by this file's own reading. The tests with a browser are skipped where
 there is no chromium.
 """
 import itertools
@@ -179,7 +179,7 @@ class Moment(Case):
 
 
 class Places(Case):
-    """Carriers that are gone at the end, or had other pages. The numbers stand in docs/FORMATS.md."""
+    """Carriers that are gone at the end, or had other pages. The numbers are those of docs/reference/flags.md."""
 
     def test_a_number_has_two_carriers(self):
         trace = self.trace("alloc 1 2000", "alloc 2 2000", "alloc 3 100", "free 1", "alloc 4 4000", "free 2", "free 3")
@@ -321,7 +321,7 @@ LEFT_BUSY = (
 
 
 class Stops(Case):
-    """What a stopped scheduler keeps. Steps and units are worked out from docs/FORMATS.md."""
+    """What a stopped scheduler keeps. Steps and units are worked out from docs/reference/trace.md."""
 
     def stopped(self, operations, steps, *flags):
         """The page's data of one scheduler that is stopped."""

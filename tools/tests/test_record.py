@@ -2,7 +2,7 @@
 """Tests of tools/record and of tools/load --recorded: python3 tools/tests/test_record.py [PROGRAM].
 
 What wants an erl or a C compiler is skipped where there is none, and so is what wants a PROGRAM that takes recorded
-operations. Expected lines are worked out by hand of docs/FORMATS.md. The last line is 'N passed, M failed'.
+operations. Expected lines are worked out by hand of docs/reference. The last line is 'N passed, M failed'.
 """
 import os
 import re

@@ -2,7 +2,7 @@
 """Tests of tools/renew: python3 tools/tests/test_renew.py [PROGRAM], without which ./run is asked for it.
 
 Each runs the tool in a small checkout of its own, with a program whose text sed changes. The texts that stand there are
-the repository's or worked out by hand from docs/FORMATS.md. The last line is 'N passed, M failed'.
+the repository's or worked out by hand from docs/reference. The last line is 'N passed, M failed'.
 """
 import glob
 import os

@@ -1,4 +1,4 @@
--- When the memory agrees with the model.
+-- When a memory agrees with the model, and that it goes on to agree (`KeepsAgreement`).
 use Rattle.std.specs.Prelude.{◌≡◌, ℕ, ◌+◌, ◌*◌, ◌<◌, ◌≤◌, List, [], ◌∷◌, ◌++◌, Option, None, Some}
 use Rattle.std.specs.Prelude.{length, slice_set}
 use Rattle.ea_model.specs.declared.carriers.Extent.{Extent}

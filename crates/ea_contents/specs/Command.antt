@@ -1,4 +1,5 @@
--- The language of the command, inputs with writes and reads.
+-- The language of the command `contents`, inputs with writes and reads (`contents_traces`).
+-- This simulator's own: the sources do not speak of it.
 use Rattle.std.specs.Prelude.{◌≡◌, ℕ, List}
 use Rattle.ea_frame.specs.Language.{Language}
 use Rattle.ea_model.specs.Trace.{IsValidTrace}

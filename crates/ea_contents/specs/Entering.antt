@@ -1,4 +1,4 @@
--- What comes of a write or a read.
+-- The entry of a write or a read: what comes of an access.
 use Rattle.std.specs.Prelude.{ℕ, Bool, true, false, List, get_or}
 use Rattle.ea_machine.specs.Setup.{Setup}
 use Rattle.ea_machine.specs.State.{State}

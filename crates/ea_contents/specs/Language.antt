@@ -1,5 +1,7 @@
--- Inputs with writes and reads. A line is the list of its words; the lines that were read are lists
--- with the newest first.
+-- Inputs with writes and reads: the trace without them (`blanked`), and what is asked for
+-- (`request`). A line is the list of its words; the lines that were read are lists with the newest
+-- first.
+-- This simulator's own: the sources do not speak of it.
 use Rattle.std.specs.Prelude.{ℕ, ◌+◌, ◌-◌, ◌^◌, Bool, true, false, ◌&&◌, ◌||◌, ◌==◌, not}
 use Rattle.std.specs.Prelude.{if◌then◌else◌, List, [], ◌∷◌, ◌++◌}
 use Rattle.std.specs.Prelude.{Option, Some, None, Result, Ok, Err}

@@ -1,5 +1,9 @@
--- The model: each name has a list of words. Turns of a scheduler are steps of the machine, and the
--- writes and reads that stand between its operations.
+-- The model of what blocks contain, without addresses: each name has a list of words. Turns of a
+-- scheduler are steps of the machine, and the writes and reads between its operations (`play`).
+-- A name that is made takes over the list of the old name of its operation, resized in its place or
+-- moved; an allocation takes over none. The words of a block in a queue are the list of its name,
+-- too.
+-- This simulator's own: the sources leave it undecided.
 use Rattle.std.specs.Prelude.{ℕ, zero, suc, ◌+◌, ◌-◌, Bool, true, false, ◌&&◌, nat_lt}
 use Rattle.std.specs.Prelude.{List, [], ◌∷◌, ◌++◌, Option, None, Some, drop, get_or, length}
 use Rattle.std.specs.Prelude.{is_some, not, slice_set}

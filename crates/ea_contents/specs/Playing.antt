@@ -1,4 +1,5 @@
--- The play of an input with writes and reads: its run, as it stands after turns of all kinds.
+-- The play of an input with writes and reads: its run at a moment of the model, after turns of all
+-- kinds.
 use Rattle.std.specs.Prelude.{◌≡◌, ℕ, ◌+◌, ◌-◌, List, length, map}
 use Rattle.std.specs.List.{range_with_len}
 use Rattle.ea_model.specs.declared.outcome.Outcome.{Outcome}

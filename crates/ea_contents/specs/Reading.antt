@@ -1,4 +1,4 @@
--- What the reader of an input knows after some of its lines, and what it answers.
+-- What the reader of an input knows after some of its lines, and what it returns.
 use Rattle.std.specs.Prelude.{◌≡◌, ℕ, ◌-◌, ◌<◌, ◌≤◌, List, [], ◌∷◌, ◌++◌, Option, Some, None}
 use Rattle.std.specs.Prelude.{◌+◌, if◌then◌else◌, Result, Ok, Err, length, map, slice_set}
 use Rattle.ea_model.specs.Lists.{Items}

@@ -1,4 +1,4 @@
--- The run of a trace with a memory, as it stands after some turns and some writes.
+-- The run of a trace with a memory, after some turns and some writes (`StandsWith`).
 use Rattle.std.specs.Prelude.{◌≡◌, ℕ, ◌+◌, ◌<◌, Bool, true, false, List, [], ◌∷◌, ◌++◌, Option}
 use Rattle.std.specs.Prelude.{None, Some, length, slice_index_or}
 use Rattle.ea_model.specs.declared.carriers.Extent.{Extent}

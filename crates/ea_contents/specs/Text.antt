@@ -1,4 +1,5 @@
 -- The text of a run with writes and reads.
+-- This simulator's own: the sources do not speak of it.
 use Rattle.std.specs.Prelude.{ℕ, ◌+◌, List, [], ◌∷◌, ◌++◌, codes, decimal, flat_map}
 use Rattle.std.specs.List.{range_with_len}
 use Rattle.ea_model.specs.declared.outcome.Outcome.{Outcome}

@@ -1,4 +1,5 @@
--- The carriers of a set, and which of them comes first.
+-- The carriers of a set, and which of those that fit is the lowest or the oldest (`comes_first`).
+-- Source of 'oldest': Erlang/OTP, 'erts_alloc', section 'The alloc_util Framework'.
 use Rattle.std.specs.Prelude.{◌≡◌, ◌≢◌, ℕ, ◌<◌, ◌≤◌, Bool, false, if◌then◌else◌}
 use Rattle.std.specs.Prelude.{nat_lt, nat_le, List, Option, All, Any}
 use Rattle.std.specs.Prelude.{filter, map, length, get_or, option_map}

@@ -1,4 +1,5 @@
--- Carriers in an order, by a number that rises along it.
+-- How carriers stand in an order: by a number that rises along it. This file serves private
+-- functions and invariants.
 use Rattle.std.specs.Prelude.{◌≡◌, ℕ, ◌+◌, ◌*◌, ◌^◌, ◌<◌, ◌≤◌, Bool, nat_le, List, All, AllPairs}
 use Rattle.std.specs.Prelude.{Some, length, map, slice_index, ◌⊎◌}
 use Rattle.ea_model.specs.Keyed.{item_at, IsBelow}

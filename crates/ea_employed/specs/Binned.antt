@@ -1,4 +1,5 @@
--- The bins of an instance, where its strategy has bins.
+-- The bins of an instance: which strategies have bins (`has_bins`), and how these choose
+-- (`fit_of`).
 use Rattle.std.specs.Prelude.{ℕ, ◌+◌, ◌*◌, ◌<◌, Bool, List, Option, Some, None, IfSome, is_some}
 use Rattle.std.specs.Prelude.{length, option_map}
 use Rattle.std.specs.List.Sorted.{IsPermutation}

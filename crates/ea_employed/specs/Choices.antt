@@ -1,4 +1,4 @@
--- What a search among an instance's carriers finds.
+-- The choice that a search among an instance's carriers returns.
 use Rattle.std.specs.Prelude.{◌≡◌, ℕ, ◌+◌, ◌*◌, ◌<◌, ◌≤◌, List, Option}
 use Rattle.std.specs.Prelude.{length, option_map, slice_index_or}
 use Rattle.ea_model.specs.declared.carriers.Candidate.{Candidate}

@@ -1,4 +1,4 @@
--- The figures of carriers, with a block or a carrier more.
+-- The figures of carriers after a change: with a block or a carrier more.
 use Rattle.std.specs.Prelude.{ℕ, ◌+◌}
 use Rattle.ea_model.specs.declared.carriers.Figures.{Figures}
 

@@ -1,4 +1,4 @@
--- The carriers of an instance, as each call finds them.
+-- The carriers of an instance, laid out, as each call finds them.
 use Rattle.std.specs.Prelude.{List, AllPairs, All}
 use Rattle.ea_model.specs.Content.{Content}
 use Rattle.ea_laws.specs.Kept.{ContentsApart, IsLaidOut, IsRising}

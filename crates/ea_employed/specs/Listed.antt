@@ -1,4 +1,5 @@
--- The carriers of an instance, their set, and the bins of their gaps.
+-- The carriers of an instance (`CarrierList`), what their set knows of them, and the bins of their
+-- gaps.
 use Rattle.std.specs.Prelude.{◌≡◌, ℕ, ◌+◌, ◌*◌, ◌-◌, ◌≤◌, Bool, true, ◌&&◌}
 use Rattle.std.specs.Prelude.{nat_lt, nat_le, List, Option, map}
 use Rattle.std.specs.Prelude.{option_map, sum_by}

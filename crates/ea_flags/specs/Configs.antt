@@ -1,4 +1,7 @@
 -- What settings make of a configuration.
+-- Source of temp_alloc's having no migration: Erlang/OTP, 'erts_alloc', section 'Flags for
+-- Configuration of Allocators Based on alloc_util'. The rest is this simulator's own: the sources
+-- leave it undecided.
 use Rattle.std.specs.Prelude.{ℕ, ◌&&◌, Bool, not, nat_le, nat_lt, if◌then◌else◌}
 use Rattle.ea_model.specs.declared.settings.Letter.TheVariants.{B, D, E, H, L, R, S, T}
 use Rattle.ea_model.specs.declared.settings.Strategy.TheVariants.{AoffCbf}

@@ -1,4 +1,5 @@
--- The configuration that words ask for, or their first refusal.
+-- The configuration that words ask for, or their first refusal (`flags`).
+-- This simulator's own: the sources leave it undecided.
 use Rattle.std.specs.Prelude.{ℕ, ◌+◌, if◌then◌else◌, List, [], ◌∷◌, Option, Some, None, Result, Ok}
 use Rattle.std.specs.Prelude.{Err, fold}
 use Rattle.ea_model.specs.declared.settings.Config.{Config}

@@ -1,4 +1,5 @@
--- The ranges of what a flag sets.
+-- The ranges of the values that a flag sets.
+-- This simulator's own: the sources leave it undecided.
 use Rattle.std.specs.Prelude.{◌≤◌, ℕ}
 use Rattle.ea_model.specs.declared.units.TheConstants.{MAX_BYTES, MAX_GROWTH_CARRIERS}
 use Rattle.ea_model.specs.declared.units.TheConstants.{MAX_MEGABYTES, MAX_PERCENT, MAX_SCHEDULERS}

@@ -1,4 +1,5 @@
--- What is said of refused words.
+-- The number of a refused word, and the message about it.
+-- This simulator's own: the sources do not speak of it.
 use Rattle.std.specs.Prelude.{ℕ, List, Option, Some, None, codes}
 use Rattle.ea_flags.specs.declared.fault.FlagFault.{FlagFault}
 use Rattle.ea_flags.specs.declared.fault.FlagFault.TheVariants.{Unknown, NoValue, BadValue}

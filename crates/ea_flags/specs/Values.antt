@@ -1,4 +1,7 @@
 -- What a flag and its value set.
+-- Source of the strategies' names, and of `de`, `true` and `false`: Erlang/OTP, 'erts_alloc',
+-- sections 'Flags for Configuration of mseg_alloc' and 'Flags for Configuration of Allocators Based
+-- on alloc_util'. This simulator's own: which values are read, and in which form.
 use Rattle.std.specs.Prelude.{ℕ, ◌*◌, Bool, true, false, nat_lt, if◌then◌else◌, List, Option, Some}
 use Rattle.std.specs.Prelude.{None, Result, Ok, Err, codes, bytes_eq}
 use Rattle.ea_model.specs.declared.settings.Strategy.{Strategy}

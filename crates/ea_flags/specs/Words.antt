@@ -1,4 +1,7 @@
 -- The flag that a word is.
+-- Source of the names, and of `u`: Erlang/OTP, 'erts_alloc', sections 'Flags for Configuration of
+-- mseg_alloc' and 'Flags for Configuration of Allocators Based on alloc_util'. This simulator's
+-- own: which of them are read, and in which form.
 use Rattle.std.specs.Prelude.{ℕ, Bool, true, false, ◌||◌, if◌then◌else◌, ◌==◌, List, [], ◌∷◌, drop}
 use Rattle.std.specs.Prelude.{Option, Some, None, codes, bytes_eq, nat_eq}
 use Rattle.std.specs.List.{starts_with}

@@ -75,7 +75,8 @@ fn next_setting(before: u32, words: &[String]) -> Result<Option<(Setting, &[Stri
 /// aoffcbf takes the place of strategies under which carriers that are to migrate can't, and each
 /// allocator's main carrier has to fit an instance's region.
 ///
-/// The flags are those of Erlang/OTP's manual 'erts_alloc', in part; docs/FORMATS.md lists them.
+/// The flags are those of Erlang/OTP's manual 'erts_alloc', in part; docs/reference/flags.md lists
+/// them.
 #[tactic(auto, using(crate::proofs::Pairs::set_first, crate::proofs::Ranges::keeps_ranges))]
 pub fn read_flags(words: &[String]) -> Result<Config, FlagFault>
     requires { length words.now < 2 ^ 32 }

@@ -1,4 +1,5 @@
--- How a command answered: what its status says of the words, the input and the three ends.
+-- All that holds of a call of a command: what its status says of the words, the input and the three
+-- ends.
 use Rattle.std.specs.Prelude.{◌≡◌, ◌≢◌, ℕ, ◌+◌, ◌<◌, ◌≤◌, ◌⊎◌, ◌↔◌, List, Option, IfSome}
 use Rattle.std.specs.Io.KnownBytes.{IsAtEnd}
 use Rattle.std.specs.declared.string.String.{String}

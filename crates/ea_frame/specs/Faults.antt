@@ -1,4 +1,5 @@
 -- The status and the line of a fault.
+-- This simulator's own: the sources do not speak of it.
 use Rattle.std.specs.Prelude.{ℕ, List, Option, Some, None, ◌++◌, codes, decimal}
 use Rattle.std.specs.Io.KnownBytes.{Appends}
 use Rattle.ea_io.specs.Fronts.{AppendsFront}

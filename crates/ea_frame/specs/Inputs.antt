@@ -1,4 +1,5 @@
--- The words and the input of a command, and what was written of its text.
+-- The words and the input of a command, and what was written of its text: good words, and inputs
+-- that are run, declined or refused (`OfInput`).
 use Rattle.std.specs.Prelude.{◌≡◌, ℕ, ◌≤◌, List, Option, IfSome, IsOk, IsOkAnd, length, map}
 use Rattle.std.specs.Prelude.{string_bytes}
 use Rattle.std.specs.Io.KnownBytes.{Appends}

@@ -1,4 +1,4 @@
--- The language of a command: what an input asks for, and which texts it has.
+-- The language of a command: how an input is read, what it asks for, and which texts it has.
 use Rattle.std.specs.Prelude.{◌≡◌, ℕ, Bool, true, false, List, Result, Err, IsOkAnd}
 use Rattle.ea_model.specs.declared.settings.Config.{Config}
 use Rattle.ea_trace.specs.declared.fault.TraceFault.{TraceFault}

@@ -1,4 +1,4 @@
--- The lines of an input.
+-- The lines of an input, and those that are left of a text.
 use Rattle.std.specs.Prelude.{ℕ, List, [], Option}
 use Rattle.std.specs.Borrow.{Bor}
 use Rattle.std.specs.Option.{option_map_or}

@@ -1,4 +1,4 @@
--- What each fault says of the words, the input and the ends.
+-- Why each fault came: what it says of the words, the input and the ends.
 use Rattle.std.specs.Prelude.{◌≡◌, ℕ, ◌+◌, ◌<◌, List, Option, IfSome, Err, length}
 use Rattle.std.specs.Io.KnownBytes.{IsAtEnd}
 use Rattle.std.specs.declared.string.String.{String}

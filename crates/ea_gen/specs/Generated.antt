@@ -1,8 +1,10 @@
--- The generator of traces. For a seed, n schedulers and a count of operations, scheduler i draws a
--- number before each of its operations: the first follows seed + i, each next one the last. Its
--- high part is the draw: the draw modulo 8 tells the kind of the operation, and an allocation asks
--- for four times the draw in bytes. The k-th operation of scheduler i allocates, if it does, the
--- name (i - 1) * count + k. Texts are made one by one, scheduler 1's first.
+-- The generator of traces (`generated_trace`). For a seed, n schedulers and a count of operations,
+-- scheduler i draws a number before each of its operations: the first follows seed + i, each next
+-- one the last. Its high part is the draw: the draw modulo 8 tells the kind of the operation, and
+-- an allocation asks for four times the draw in bytes. The k-th operation of scheduler i allocates,
+-- if it does, the name (i - 1) * count + k. Texts are made one by one, scheduler 1's first.
+-- Source of the multiplier, the increment and the modulus: `rand` of many a C library. The rest is
+-- this simulator's own: the sources do not speak of it.
 use Rattle.std.specs.Prelude.{ℕ, zero, suc, ◌+◌, ◌-◌, ◌*◌, ◌/◌, ◌%◌, ◌^◌, Bool, ◌&&◌, ◌==◌, nat_lt}
 use Rattle.std.specs.Prelude.{nat_le, if◌then◌else◌, List, [], ◌∷◌, ◌++◌, Option, Some, None, find}
 use Rattle.std.specs.Prelude.{flat_map, map}

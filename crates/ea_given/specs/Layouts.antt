@@ -1,4 +1,4 @@
--- The layouts of all carriers once a schedule is completed.
+-- The layouts of all carriers at the end of a run, once its schedule is completed.
 use Rattle.std.specs.Prelude.{List}
 use Rattle.ea_model.specs.declared.settings.Config.{Config}
 use Rattle.ea_model.specs.declared.trace.Trace.{Trace}

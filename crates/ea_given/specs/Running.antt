@@ -1,4 +1,5 @@
--- The schedulers of a run, which take their turns on plain memory.
+-- The schedulers of a run, which take their turns on plain memory, and the turns that they took
+-- (`AllStand`, `AllTook`, `AllRanOut`).
 use Rattle.std.specs.Prelude.{◌≡◌, ℕ, ◌+◌, ◌<◌, ◌≤◌, false, List, Option, None, Some, get_or}
 use Rattle.std.specs.Prelude.{length}
 use Rattle.std.specs.Prelude.{replicate}

@@ -1,4 +1,5 @@
--- The run of a trace, as it stands after some turns.
+-- The run of a trace after some turns (`StandsAfter`), what holds of it (`Tells`), and its way to
+-- later turns (`GoesOn`).
 use Rattle.std.specs.Prelude.{◌≡◌, ℕ, ◌+◌, ◌-◌, ◌*◌, ◌≤◌, Bool, false, List, ◌++◌, Option}
 use Rattle.std.specs.Prelude.{is_some, length, slice_get}
 use Rattle.ea_model.specs.declared.carriers.Extent.{Extent}

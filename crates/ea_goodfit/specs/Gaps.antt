@@ -1,4 +1,5 @@
--- The gaps of the bins, by rising address, and the one that a search finds.
+-- The gaps of the bins, by rising address, and the one that a search finds (`found_by`).
+-- GoodFit.antt of ea_model defines the bins and names their source.
 use Rattle.std.specs.Prelude.{◌≢◌, ℕ, ◌+◌, ◌-◌, ◌^◌, ◌<◌, ◌≤◌, Bool, ◌&&◌, if◌then◌else◌, nat_le}
 use Rattle.std.specs.Prelude.{nat_lt, ◌==◌, List, [], ◌∷◌, ◌++◌, All, Option, filter, take}
 use Rattle.std.specs.List.{list_any}

@@ -1,4 +1,5 @@
--- The keys by which gaps are found, and the gaps by position.
+-- The keys by which gaps are found, and the gaps by position. This file serves private functions
+-- and invariants.
 use Rattle.std.specs.Prelude.{◌≡◌, ◌≢◌, ℕ, ◌+◌, ◌-◌, ◌*◌, ◌^◌, ◌<◌, ◌≤◌, List, [], ◌∷◌, Option}
 use Rattle.std.specs.Prelude.{Some, None, All, AllPairs, Contains, length, map, get_or, option_map}
 use Rattle.ea_model.specs.GoodFit.{bin_of}

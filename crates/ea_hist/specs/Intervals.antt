@@ -1,4 +1,6 @@
--- Intervals of sizes, which double, and how many sizes lie in each.
+-- Intervals of sizes, each twice as long as the one before, and how many sizes lie in each
+-- (`interval_of`).
+-- Source of the intervals: Erlang/OTP, the module 'instrument'.
 use Rattle.std.specs.Prelude.{ℕ, ◌+◌, ◌-◌, ◌*◌, ◌^◌, nat_le, ◌==◌, List, filter, length, map}
 use Rattle.std.specs.List.{range_with_len}
 use Rattle.ea_hist.specs.declared.counting.TheConstants.{INTERVALS}

@@ -1,4 +1,6 @@
--- The language of the command: traces, of which it runs those with a schedule.
+-- The language of the command `histogram` (`histograms`): traces, of which it runs those with a
+-- schedule.
+-- This simulator's own: the sources do not speak of it.
 use Rattle.std.specs.Prelude.{◌≡◌, ℕ, List}
 use Rattle.ea_frame.specs.Language.{Language}
 use Rattle.ea_model.specs.declared.settings.Config.{Config}

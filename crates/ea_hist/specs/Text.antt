@@ -1,4 +1,5 @@
--- The text of histograms.
+-- The text of histograms (`histograms_text`).
+-- This simulator's own: the sources do not speak of it.
 use Rattle.std.specs.Prelude.{ℕ, List, ◌∷◌, ◌++◌, codes, decimal, flat_map, map, sum_by}
 use Rattle.std.specs.List.{range_with_len}
 use Rattle.ea_instance.specs.declared.layouts.Layout.{Layout}

@@ -1,4 +1,4 @@
--- What calls of an instance answer.
+-- The values that calls of an instance return.
 use Rattle.std.specs.Prelude.{ℕ, Option, Some, None}
 use Rattle.ea_model.specs.declared.carriers.Spot.{Spot}
 use Rattle.ea_model.specs.Instance.{Instance, placing_at}

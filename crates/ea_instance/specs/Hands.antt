@@ -1,4 +1,4 @@
--- A carrier in a scheduler's hand.
+-- A carrier in a scheduler's hand: its content and its kind.
 use Rattle.std.specs.Prelude.{◌≡◌}
 use Rattle.ea_model.specs.declared.carriers.Kind.TheVariants as kind
 use Rattle.ea_model.specs.Content.{Content}

@@ -1,4 +1,4 @@
--- The sizes of a carrier's blocks and gaps.
+-- The sizes of a carrier's blocks and gaps: the layout of a content (`layout_of`).
 use Rattle.std.specs.Prelude.{ℕ, List, map}
 use Rattle.ea_model.specs.declared.carriers.BlockAt.{BlockAt}
 use Rattle.ea_model.specs.declared.carriers.Gap.{Gap}

@@ -1,4 +1,5 @@
--- What one read of a source and one write to a sink do, and how several of them follow each other.
+-- What one read of a source and one write to a sink do (`Reads`, `Writes`), and how several of them
+-- follow each other: all succeed (`OnlyReads`), or only the last one fails (`StopsReading`).
 use Rattle.std.specs.Prelude.{◌≡◌, ℕ, ◌<◌, ◌≤◌, Option, None, List, [], ◌∷◌, Result, Ok, Err}
 use Rattle.std.specs.Prelude.{IfOk, OnOk, OnErr, length}
 use Rattle.std.specs.Io.{ReadsAtMost, WritesAtMost}

@@ -1,4 +1,4 @@
--- Counts of faults and of bytes, which stop at their last value: what a rise is.
+-- Counts of faults and of bytes, which stop at their last value: when one has risen.
 use Rattle.std.specs.Prelude.{◌≡◌, ℕ, ◌+◌, ◌<◌, ◌≤◌, min, Option, None, Some, Result, MatchResult}
 
 -- the greatest count; a count that stands there may have lost rises

@@ -1,4 +1,4 @@
--- What an end took or gave when a call broke off.
+-- A prefix that an end took or gave before a call broke off.
 use Rattle.std.specs.Prelude.{◌≡◌, ℕ, ◌≤◌, Option, List, ◌++◌, length}
 use Rattle.std.specs.Io.KnownBytes.{Appends, Consumes}
 

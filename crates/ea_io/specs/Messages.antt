@@ -1,4 +1,4 @@
--- What is said of a source that was not read to its end.
+-- The message about a source that was not read to its end.
 use Rattle.std.specs.Prelude.{ℕ, List, codes}
 use Rattle.ea_io.specs.declared.reading.ReadAllFault.{ReadAllFault}
 use Rattle.ea_io.specs.declared.reading.ReadAllFault.TheVariants.{ReadFault, TooLong, OutOfMemory}

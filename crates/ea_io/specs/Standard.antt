@@ -1,4 +1,4 @@
--- What contracts see of a reader as a source and of a writer as a sink.
+-- A reader as a source and a writer as a sink, as contracts see them.
 use Rattle.std.specs.Prelude.{ℕ}
 use Rattle.ea_io.specs.declared.standard.StdSource.{StdSource}
 use Rattle.ea_io.specs.declared.standard.StdSink.{StdSink}

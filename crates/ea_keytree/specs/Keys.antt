@@ -1,4 +1,4 @@
--- Keys by position.
+-- Keys by position (`KeysHeld`), and the next key up or down from a bound.
 use Rattle.std.specs.Prelude.{◌≡◌, ℕ, ◌<◌, ◌≤◌, List, Option, Some, None, length}
 use Rattle.std.specs.Prelude.{slice_index_or}
 use Rattle.ea_keytree.specs.declared.tree.Found.{Found}

@@ -1,4 +1,5 @@
--- Trees of positions by their keys, and the nodes that they stand in.
+-- Trees of positions by their keys, and the nodes of the array in which they are stored. This file
+-- serves private functions and invariants.
 use Rattle.std.specs.Prelude.{◌≡◌, ◌≢◌, ℕ, ◌+◌, ◌-◌, ◌/◌, ◌^◌, ◌<◌, ◌≤◌, ◌⊎◌}
 use Rattle.std.specs.Prelude.{List, length, map, slice_index_or}
 use Rattle.std.specs.Prelude.{Option, Some, None, if◌then◌else◌, ◌==◌}

@@ -1,4 +1,5 @@
--- Laws of the choice among gaps, for each strategy, each need and all contents.
+-- Laws of the choice among gaps, for each strategy, each need and all contents. The statement of
+-- each law is one name.
 use Rattle.std.specs.Prelude.{◌≡◌, ◌⊎◌, ◌↔◌, ℕ, ◌<◌, true, false, List, Some, All, IsNone, filter}
 use Rattle.std.specs.Cmp.{IsStrictWeakOrder}
 use Rattle.ea_model.specs.declared.carriers.Candidate.{Candidate}

@@ -1,4 +1,5 @@
 -- An instance at one moment: where its blocks and its carriers lie, and what their units come to.
+-- Blocks lie apart, carriers lie apart, and their units add up.
 use Rattle.std.specs.Prelude.{◌≡◌, ◌+◌, ◌*◌, List, All, AllPairs, length, map, sum_by}
 use Rattle.std.specs.List.{flat_map}
 use Rattle.ea_model.specs.declared.carriers.Extent.{Extent}

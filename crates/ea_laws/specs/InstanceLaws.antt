@@ -1,5 +1,5 @@
 -- Laws of an instance: that it stands at its beginning and through each change, and what each
--- change does to its blocks.
+-- change does to its blocks. The statement of each law is one name.
 use Rattle.std.specs.Prelude.{◌≡◌, ◌↔◌, ℕ, ◌+◌, ◌%◌, ◌≢◌, ◌<◌, ◌≤◌, true, None, Some, Ok, Err, All}
 use Rattle.std.specs.Prelude.{◌-◌, ◌*◌, IsSome, sum_by}
 use Rattle.ea_model.specs.declared.carriers.CarrierPlan.{CarrierPlan}

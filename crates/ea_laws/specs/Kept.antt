@@ -1,5 +1,6 @@
 -- The carriers of an instance: those that it owns, those that it employs, where they lie, and what
--- holds of them at every moment.
+-- holds of them at every moment. `IsOrderly` is an instance in order, whoever owns the carriers
+-- that it employs; `Stands` is what else holds at every moment.
 use Rattle.std.specs.Prelude.{◌≡◌, ◌⊎◌, ℕ, ◌+◌, ◌*◌, ◌%◌, ◌/◌, ◌<◌, ◌≤◌, true, List, [], ◌∷◌, All}
 use Rattle.std.specs.Prelude.{AllPairs, Some}
 use Rattle.ea_model.specs.declared.carriers.BlockAt.{BlockAt}

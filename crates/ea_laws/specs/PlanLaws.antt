@@ -1,4 +1,5 @@
--- Laws of the carrier that an instance would create: its number, its size, and its pages.
+-- Laws of the carrier that an instance would create: its number, its size, and its pages. The
+-- statement of each law is one name.
 use Rattle.std.specs.Prelude.{◌≡◌, ◌⊎◌, ◌↔◌, ℕ, ◌+◌, ◌-◌, ◌*◌, ◌<◌, ◌≤◌, max, true, false, List}
 use Rattle.std.specs.Prelude.{◌∷◌, ◌++◌, All, Ok}
 use Rattle.ea_model.specs.declared.carriers.CarrierPlan.{CarrierPlan}

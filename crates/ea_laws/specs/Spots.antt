@@ -1,4 +1,5 @@
--- Blocks and gaps at the spots of an instance, and what a strategy finds among them.
+-- Blocks and gaps at the spots of an instance, and what a strategy finds among them. They also say
+-- that all carrier numbers are in use (`AllUsed`).
 use Rattle.std.specs.Prelude.{◌≡◌, ◌≢◌, ℕ, ◌+◌, ◌<◌, ◌≤◌, true, List, All, None, Some, filter}
 use Rattle.ea_model.specs.declared.carriers.Spot.{Spot}
 use Rattle.ea_model.specs.declared.carriers.Place.{Place}

@@ -1,4 +1,7 @@
--- A scheduler: what it keeps for itself.
+-- A scheduler: what it keeps for itself. Where it is in its operation is said by `Stage`, `Route`,
+-- `Part`, `Ask`, `Task`, `Why` and `Gone` of src.
+-- Source: Erlang/OTP, 'Delayed Dealloc', section 'Functionality Used to Address This problem': one
+-- lock-free instance for each scheduler. The rest is this simulator's own.
 use Rattle.std.specs.Prelude.{List, Option}
 use Rattle.ea_model.specs.declared.carriers.Figures.{Figures}
 use Rattle.ea_model.specs.declared.operations.Op.{Op}

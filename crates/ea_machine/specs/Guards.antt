@@ -1,4 +1,7 @@
 -- The guards of the table: what holds whenever a scheduler wants a row.
+-- Source: Erlang/OTP, 'Carrier Migration', sections 'Migration' and 'Carrier Pool'.
+-- Source, for queues: Erlang/OTP, 'Delayed Dealloc', section 'Functionality Used to Address This
+-- problem'.
 use Rattle.std.specs.Prelude.{◌≡◌, ◌≢◌, ◌⊎◌, ℕ, true, false, [], ◌∷◌, None, Some, All, Contains}
 use Rattle.ea_model.specs.Content.{Content, can_go}
 use Rattle.ea_machine.specs.declared.nodes.Node.{Node}

@@ -1,4 +1,5 @@
--- The machine: what a scheduler wants, a step, and a run.
+-- The machine: what a scheduler wants, a step, and a run. It also defines the start.
+-- This simulator's own: the sources leave it undecided.
 use Rattle.std.specs.Prelude.{◌≡◌, ℕ, Bool, true, false, ◌&&◌, nat_lt, ◌==◌, List, [], ◌∷◌, Option}
 use Rattle.std.specs.Prelude.{None, Some}
 use Rattle.ea_model.specs.Instance.{Instance, first_number, new_instance, owner_of}

@@ -1,4 +1,6 @@
--- Names with the spots of their blocks, and the nodes of queues.
+-- Names with the spots of their blocks, and the nodes of queues. A node is linked or not.
+-- Source: Erlang/OTP, 'Delayed Dealloc', section 'Functionality Used to Address This problem': a
+-- list runs through the blocks. The rest is this simulator's own.
 use Rattle.std.specs.Prelude.{ℕ, Bool, true, false, ◌&&◌, ◌==◌, if◌then◌else◌, List, [], ◌∷◌}
 use Rattle.std.specs.Prelude.{Option, None, Some, option_map}
 use Rattle.ea_model.specs.declared.carriers.Spot.{Spot}

@@ -1,4 +1,5 @@
--- The operations themselves, once their begin is over.
+-- The operations themselves, once their begin is over. There are seven of them.
+-- This simulator's own: the sources leave it undecided.
 use Rattle.std.specs.Prelude.{ℕ, zero, suc, List, [], ◌∷◌, Option, None, Some}
 use Rattle.ea_model.specs.declared.carriers.Spot.{Spot}
 use Rattle.ea_model.specs.declared.operations.Op.{Op}

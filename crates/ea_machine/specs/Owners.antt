@@ -1,4 +1,7 @@
--- Carriers as schedulers share them: where they are, and their owner words.
+-- Carriers as schedulers share them: where they are, and their owner words. An owner word says who
+-- owns a carrier, and where it is.
+-- Source: Erlang/OTP, 'Carrier Migration', section 'Migration': owner, employer, pool and busy are
+-- in one word. The rest is this simulator's own.
 use Rattle.std.specs.Prelude.{ℕ, Bool, true, false, ◌&&◌, ◌==◌}
 use Rattle.ea_model.specs.Content.{Content}
 use Rattle.ea_machine.specs.declared.owners.OwnerWord.{OwnerWord}

@@ -1,4 +1,6 @@
--- How a block finds its place.
+-- How a block finds its place. It defines where a place is sought first, and where next.
+-- Source: Erlang/OTP, 'Carrier Migration', section 'Searching the pool': the order. The rest is
+-- this simulator's own.
 use Rattle.std.specs.Prelude.{ℕ, Bool, true, false, Option, None, Some, Result, Ok, Err}
 use Rattle.ea_model.specs.declared.carriers.Place.{Place}
 use Rattle.ea_model.specs.declared.carriers.Spot.{Spot}

@@ -1,4 +1,7 @@
--- Reallocation.
+-- Reallocation: a block keeps its place, or it moves. One that moves is placed as an allocated one
+-- is, and then the old one is released.
+-- Source: Erlang/OTP, 'Carrier Migration', section 'Searching the pool': the order in which a new
+-- place is sought. The rest is this simulator's own.
 use Rattle.std.specs.Prelude.{ℕ, Option, None, Some}
 use Rattle.ea_model.specs.declared.carriers.Spot.{Spot}
 use Rattle.ea_model.specs.declared.carriers.Place.{Place}

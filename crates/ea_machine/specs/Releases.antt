@@ -1,6 +1,12 @@
 -- The release of a block, and the way of a carrier that it leaves empty. A block is released by the
 -- scheduler that employs its carrier, or that abandoned it into the pool; another one puts it into
--- that scheduler's queue.
+-- that scheduler's queue. Of `Gone` only the first counts: a block that was released here is
+-- `done`, also if its carrier is then sent home.
+-- Source: Erlang/OTP, 'Carrier Migration', section 'Migration': who releases a block, and that the
+-- owner deallocates the carrier. That the scheduler that abandoned a carrier employs it is the rule
+-- of older editions.
+-- Source: Erlang/OTP, 'Delayed Dealloc', section 'Functionality Used to Address This problem': a
+-- block is passed on.
 use Rattle.std.specs.Prelude.{ℕ, Bool, true, false, ◌==◌, Option, None, Some}
 use Rattle.ea_model.specs.Content.{Content, is_nil, is_vacant, released}
 use Rattle.ea_model.specs.Instance.{content_of, employed, releasing_at, owner_of}

@@ -1,5 +1,9 @@
 -- The rows of the table of atomic steps. Each reads or writes one word that is shared: an owner
--- word, the head of a queue, a link, or whether a name is given.
+-- word, the head of a queue, a link, or whether a name is given. That a step reads or writes one
+-- word is this simulator's own, and so are names that are given and taken.
+-- Source of what is done: Erlang/OTP, 'Carrier Migration', sections 'Migration' and 'Carrier Pool'.
+-- Source of what is done to queues: Erlang/OTP, 'Delayed Dealloc', section 'Functionality Used to
+-- Address This problem'.
 use Rattle.std.specs.Prelude.{ℕ, Option}
 use Rattle.ea_model.specs.declared.carriers.Spot.{Spot}
 use Rattle.ea_model.specs.Content.{Content}

@@ -1,4 +1,6 @@
--- What stays the same in a run.
+-- What stays the same in a run. Each scheduler has an instance of its own.
+-- Source: Erlang/OTP, 'Delayed Dealloc', section 'Functionality Used to Address This problem': one
+-- lock-free instance for each scheduler. The rest is this simulator's own.
 use Rattle.std.specs.Prelude.{ℕ, zero, suc, ◌-◌, ◌*◌, Bool, nat_lt, nat_le, ◌&&◌, List, []}
 use Rattle.std.specs.Prelude.{Option}
 use Rattle.ea_model.specs.declared.settings.Config.{Config}

@@ -1,4 +1,7 @@
--- What schedulers share.
+-- What schedulers share: where each carrier is, the queues, what is left of walks, and the names
+-- that are given.
+-- Source: Erlang/OTP, 'Delayed Dealloc', section 'Functionality Used to Address This problem': the
+-- queues. The rest is this simulator's own.
 use Rattle.std.specs.Prelude.{ℕ, ◌==◌, if◌then◌else◌, List}
 use Rattle.ea_machine.specs.Nodes.{Mark}
 use Rattle.ea_machine.specs.declared.nodes.Named.{Named}

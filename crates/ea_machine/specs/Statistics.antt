@@ -1,4 +1,5 @@
 -- The figures of a scheduler's carriers, and their report.
+-- This simulator's own: the sources leave it undecided.
 use Rattle.std.specs.Prelude.{ℕ, max, Bool, true, false, not, List, [], ◌∷◌, ◌++◌, filter}
 use Rattle.ea_model.specs.declared.carriers.Figures.{Figures}
 use Rattle.ea_model.specs.declared.carriers.Kind.{Kind}

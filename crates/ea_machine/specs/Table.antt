@@ -1,4 +1,7 @@
--- The table of atomic steps: what each row answers, and its effect on what is shared.
+-- The table of atomic steps: what each row returns, and its effect on what is shared.
+-- Source of what is done: Erlang/OTP, 'Carrier Migration', sections 'Migration' and 'Carrier Pool'.
+-- Source of what is done to queues: Erlang/OTP, 'Delayed Dealloc', section 'Functionality Used to
+-- Address This problem'.
 use Rattle.std.specs.Prelude.{ℕ, Bool, true, false, List, [], ◌∷◌, Option, None, Some}
 use Rattle.ea_model.specs.Content.{Content, gaps_of, is_nil, largest}
 use Rattle.ea_machine.specs.declared.owners.OwnerWord.{OwnerWord}

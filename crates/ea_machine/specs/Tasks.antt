@@ -1,4 +1,7 @@
 -- Operations that release a block, and the end of an operation.
+-- Source: Erlang/OTP, 'Carrier Migration', section 'Migration': who releases a block.
+-- Source: Erlang/OTP, 'Delayed Dealloc', section 'Functionality Used to Address This problem': a
+-- block is passed on. The rest is this simulator's own.
 use Rattle.std.specs.Prelude.{ℕ, List, [], ◌∷◌, ◌++◌, Option, None, Some}
 use Rattle.ea_model.specs.declared.operations.Op.{Op}
 use Rattle.ea_model.specs.Entries.{Entry}

@@ -1,6 +1,10 @@
 -- The begin of an operation: the scheduler takes its whole queue, walks it from the newest node to
 -- the oldest, and works the nodes off in the other direction. Where a node isn't linked yet the
--- walk rests, until the next operation begins.
+-- walk rests, until the next operation begins. A walk is what was passed (`passed`, oldest first)
+-- and the rest, which is shared, since the scheduler that pushed a node may still have to link it.
+-- Nothing is worked off before the oldest node was passed.
+-- Source: Erlang/OTP, 'Delayed Dealloc', section 'Functionality Used to Address This problem': the
+-- scheduler of the instance takes the queue and works it off. The rest is this simulator's own.
 use Rattle.std.specs.Prelude.{ℕ, List, [], ◌∷◌, Option, None, Some}
 use Rattle.ea_machine.specs.declared.nodes.Node.{Node}
 use Rattle.ea_machine.specs.declared.nodes.Node.TheVariants.{Block, Carrier}

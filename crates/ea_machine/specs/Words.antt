@@ -1,4 +1,4 @@
--- What owner words can show.
+-- The gaps that owner words can show.
 use Rattle.std.specs.Prelude.{◌≡◌, ℕ, ◌%◌, ◌≤◌}
 use Rattle.ea_model.specs.declared.units.TheConstants.{MAX_UNITS}
 

@@ -1,4 +1,5 @@
--- How the units of a carrier, and its names by half offsets, stand for its blocks and gaps.
+-- How the units of a carrier, and its names by half offsets, stand for its blocks and gaps
+-- (`IsCoded`, `blocks_of`). `Laid` and `Cleared` say what a change writes.
 use Rattle.std.specs.Prelude.{◌≡◌, ◌≢◌, ℕ, zero, suc, ◌+◌, ◌-◌, ◌*◌, ◌/◌, ◌%◌, ◌<◌, ◌≤◌, ◌⊎◌}
 use Rattle.std.specs.Prelude.{Bool, true, false, if◌then◌else◌, nat_lt, ◌==◌}
 use Rattle.std.specs.Prelude.{List, [], ◌∷◌, length, slice_index}

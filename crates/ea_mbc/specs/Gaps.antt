@@ -1,4 +1,4 @@
--- What a call makes of the gaps of a carrier.
+-- The gaps of a carrier after a call: a gap taken, gaps joined, a gap resized.
 use Rattle.std.specs.Prelude.{◌≡◌, ℕ, ◌+◌, ◌-◌, List, [], ◌∷◌, ◌++◌}
 use Rattle.ea_model.specs.declared.carriers.Gap.{Gap}
 use Rattle.ea_model.specs.Content.{Content, gap, gaps_of, gap_at, gap_before}

@@ -1,4 +1,5 @@
--- In which of two structures the sizes of gaps are, by the order in which gaps are chosen.
+-- In which of two structures the sizes of gaps are, by the order in which gaps are chosen. This
+-- file serves private functions and invariants.
 use Rattle.std.specs.Prelude.{◌≡◌, ℕ, ◌*◌, ◌-◌, ◌^◌, ◌≤◌, Bool, true, false, not, min, List}
 use Rattle.std.specs.Prelude.{length}
 use Rattle.ea_model.specs.declared.carriers.Inner.{Inner}

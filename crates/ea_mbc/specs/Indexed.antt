@@ -1,5 +1,5 @@
 -- The gaps of a carrier by slots. A gap has 6 units at least, and so has the block between two
--- gaps: no two gaps begin in the same slot.
+-- gaps: no two gaps begin in the same slot. This file serves private functions and invariants.
 use Rattle.std.specs.Prelude.{◌≡◌, ℕ, ◌+◌, ◌*◌, ◌/◌, ◌<◌, ◌≤◌, if◌then◌else◌, ◌==◌}
 use Rattle.std.specs.Prelude.{List, [], ◌∷◌, All, Contains, length, replicate, slice_index}
 use Rattle.std.specs.Prelude.{slice_set}

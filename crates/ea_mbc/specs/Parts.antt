@@ -1,4 +1,5 @@
--- The parts of a carrier: its blocks and its gaps.
+-- The parts of a carrier: its blocks and its gaps, and which of them begins at an offset
+-- (`part_in`).
 use Rattle.std.specs.Prelude.{◌⊎◌, ℕ, ◌<◌, List, Option, None, Some, IsSome}
 use Rattle.ea_model.specs.declared.carriers.BlockAt.{BlockAt}
 use Rattle.ea_model.specs.declared.carriers.Gap.{Gap}

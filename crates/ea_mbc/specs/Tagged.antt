@@ -1,4 +1,4 @@
--- What the units of a carrier say of each of its blocks and gaps.
+-- The words by which the units of a carrier describe each of its blocks and gaps.
 use Rattle.std.specs.Prelude.{◌≡◌, ℕ, ◌+◌, ◌-◌, true, false, nat_lt, ◌==◌, List, slice_index}
 use Rattle.ea_model.specs.declared.carriers.BlockAt.{BlockAt}
 use Rattle.ea_model.specs.declared.carriers.Gap.{Gap}

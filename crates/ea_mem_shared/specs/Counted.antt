@@ -1,4 +1,4 @@
--- Which numbers count.
+-- Which numbers count, and the greatest of them (`IsLast`).
 use Rattle.std.specs.Prelude.{◌≡◌, ℕ, ◌<◌, ◌≤◌, Bool, true, false, List, Option, None, Some, get_or}
 
 -- whether the number counts, by what is known of each from 0 on

@@ -1,4 +1,4 @@
--- Where carriers are, in plain memory.
+-- Where carriers are in plain memory: carriers in a list, by their numbers (`place_at`).
 use Rattle.std.specs.Prelude.{ℕ, Bool, List, get_or, set}
 use Rattle.ea_model.specs.Content.{Content}
 use Rattle.ea_machine.specs.Owners.{CarrierAt}

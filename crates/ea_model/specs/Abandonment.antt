@@ -1,4 +1,7 @@
--- When a carrier is abandoned into the pool.
+-- When a carrier is abandoned into the pool. `is_due` says so.
+-- Source: Erlang/OTP, 'Carrier Migration', section 'Migration'.
+-- Source: Erlang/OTP, 'erts_alloc', section 'Flags for Configuration of Allocators Based on
+-- alloc_util', flags acul and acfml.
 use Rattle.std.specs.Prelude.{ℕ, ◌*◌, Bool, ◌&&◌, not, nat_lt, nat_le, List}
 use Rattle.ea_model.specs.declared.settings.Settings.{Settings}
 use Rattle.ea_model.specs.declared.units.TheConstants.{UNIT_BYTES}

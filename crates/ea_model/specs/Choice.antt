@@ -1,4 +1,7 @@
--- The choice among gaps.
+-- The first of a list by an order, and the choice among the gaps of one carrier.
+-- Source: Erlang/OTP, 'erts_alloc', section 'The alloc_util Framework', 'Best fit', 'Address order
+-- best fit' and 'Address order first fit'. That best fit takes the higher of two gaps of one size
+-- is this simulator's own.
 use Rattle.std.specs.Prelude.{◌≡◌, ℕ, Bool, false, ◌&&◌, ◌||◌, if◌then◌else◌, nat_lt, nat_le, ◌==◌}
 use Rattle.std.specs.Prelude.{List, Option, Some, None, filter, fold, All, Contains}
 use Rattle.ea_model.specs.declared.carriers.Gap.{Gap}

@@ -1,4 +1,7 @@
--- The content of a carrier, and its gaps.
+-- The content of a carrier, and its gaps. It defines what placing, releasing and resizing a block
+-- make of a content, and which carriers may be deallocated.
+-- Source: Erlang/OTP, 'erts_alloc', section 'The alloc_util Framework': adjacent free blocks are
+-- coalesced at once, and the main carrier stays. The rest is this simulator's own.
 use Rattle.std.specs.Prelude.{◌≡◌, ℕ, ◌+◌, ◌-◌, ◌%◌, ◌<◌, ◌≤◌, max, Bool, true, false, ◌&&◌}
 use Rattle.std.specs.Prelude.{if◌then◌else◌, nat_lt, nat_le, ◌==◌, List, [], ◌∷◌, ◌++◌, Option}
 use Rattle.std.specs.Prelude.{find, sum_by}

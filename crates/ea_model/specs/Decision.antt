@@ -1,4 +1,6 @@
 -- What a reallocation decides: the first line that holds; and the units that its block has then.
+-- Source: Erlang/OTP, 'erts_alloc', section 'Flags for Configuration of Allocators Based on
+-- alloc_util': the thresholds. Their order is this simulator's own.
 use Rattle.std.specs.Prelude.{ℕ, ◌+◌, ◌-◌, ◌*◌, ◌&&◌, not, nat_le, nat_lt, ◌==◌, if◌then◌else◌}
 use Rattle.ea_model.specs.declared.settings.Settings.{Settings}
 use Rattle.ea_model.specs.declared.units.TheConstants.{HEADER_UNITS, MIN_BLOCK}

@@ -1,4 +1,5 @@
 -- Carriers that come to an instance, and that leave it.
+-- Source: Erlang/OTP, 'Carrier Migration', section 'Migration'.
 use Rattle.std.specs.Prelude.{ℕ}
 use Rattle.ea_model.specs.Content.{Content}
 use Rattle.ea_model.specs.Instance.{Instance, with_content, without_content, without_own}

@@ -1,4 +1,5 @@
--- What a log says of an operation, as definitions and contracts see it, and how a log keeps it.
+-- What a log says of an operation: an entry with its reports, as definitions and contracts see it,
+-- and the entry as a log keeps it.
 use Rattle.std.specs.Prelude.{ℕ, ◌<◌, List, [], ◌∷◌, Option, None, Some, IfSome, slice_get}
 use Rattle.ea_model.specs.declared.entries.Entry as declared
 use Rattle.ea_model.specs.declared.entries.Entry.TheVariants.{Alloc, AllocFail, Free, FreeQueued}

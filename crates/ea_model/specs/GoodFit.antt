@@ -1,4 +1,8 @@
--- Good fit: bins of gaps, of which a search inspects the first few.
+-- Good fit: bins of gaps, of which a search inspects the first few. It defines the bin of a size,
+-- and which gaps of each bin are inspected.
+-- Source: Erlang/OTP, 'erts_alloc', section 'The alloc_util Framework', 'Good fit': there are bins.
+-- Source: Erlang/OTP, 'erts_alloc', section 'Flags for Configuration of Allocators Based on
+-- alloc_util', flag mbsd: how many gaps of a bin are inspected. The rest is this simulator's own.
 use Rattle.std.specs.Prelude.{ℕ, ◌+◌, ◌-◌, ◌^◌, Bool, ◌&&◌, if◌then◌else◌, nat_lt, nat_le, ◌==◌, List}
 use Rattle.std.specs.Prelude.{Option, filter, length}
 use Rattle.std.specs.List.{range_with_len}

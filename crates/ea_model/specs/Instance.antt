@@ -1,5 +1,13 @@
 -- An allocator instance: the carriers that it owns, those that it employs, and the carrier that it
--- would create next.
+-- would create next. It also defines what each of its calls does.
+-- `plan` and `free_run` look at what an instance owns (`own`); `chosen_spot`, `figures` and
+-- `totals` look at what it employs (`contents`, `singles`). A carrier that is dismissed leaves the
+-- second, and one that is disowned leaves the first. A singleblock carrier without its block stays
+-- among `singles` until it is dismissed.
+-- Source: Erlang/OTP, 'erts_alloc', section 'The alloc_util Framework': the growth of carriers, the
+-- main carrier, and which block has a singleblock carrier.
+-- Source: Erlang/OTP, 'Carrier Migration', section 'Problem': an empty carrier is deallocated. The
+-- rest is this simulator's own.
 use Rattle.std.specs.Prelude.{ℕ, zero, suc, ◌+◌, ◌-◌, ◌*◌, ◌/◌, max, Bool, false, if◌then◌else◌}
 use Rattle.std.specs.Prelude.{nat_lt, nat_le, List, [], ◌∷◌, Option, Some, None, Result, Ok, Err}
 use Rattle.std.specs.Prelude.{filter, length, map, sum_by, option_map, is_some}

@@ -1,4 +1,4 @@
--- The outcome of a run, as definitions answer it.
+-- The outcome of a run, as definitions return it: whatever the capacity of its lists.
 use Rattle.std.specs.Prelude.{List, map}
 use Rattle.ea_model.specs.Entries.{Entry}
 use Rattle.ea_model.specs.declared.outcome.Outcome.{Outcome}

@@ -1,4 +1,6 @@
--- A region of pages, and the runs of it that no segment covers.
+-- A region of pages, and the runs of it that no segment covers. It defines the lowest run that is
+-- long enough, and how segments are taken and given back.
+-- This simulator's own: the sources leave it undecided.
 use Rattle.std.specs.Prelude.{◌≡◌, ◌⊎◌, ℕ, ◌+◌, ◌-◌, ◌<◌, ◌≤◌, max, Bool, ◌&&◌, if◌then◌else◌}
 use Rattle.std.specs.Prelude.{nat_lt, nat_le, List, [], ◌∷◌, ◌++◌, Option, find, option_map, All}
 use Rattle.std.specs.Prelude.{Any}

@@ -1,4 +1,8 @@
--- What the emulator flags set, and the configurations that are valid.
+-- What the emulator flags set, and the configurations that are valid. It defines the settings of an
+-- allocator by its letter, the region of an instance, and whether carriers migrate.
+-- Source: Erlang/OTP, 'erts_alloc', section 'Flags for Configuration of Allocators Based on
+-- alloc_util', flag acul: under which strategies carriers migrate, and that those of temp_alloc
+-- don't. The rest is this simulator's own.
 use Rattle.std.specs.Prelude.{◌≡◌, ℕ, ◌*◌, ◌/◌, ◌<◌, ◌≤◌, nat_lt, Bool, true, false}
 use Rattle.ea_model.specs.declared.settings.Letter.{Letter}
 use Rattle.ea_model.specs.declared.settings.Letter.TheVariants.{B, D, E, H, L, R, S, T}

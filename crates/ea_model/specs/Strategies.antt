@@ -1,4 +1,12 @@
--- The choice among the gaps of several carriers.
+-- The choice among the gaps of several carriers. It defines the candidates, which of them a
+-- strategy inspects, which it takes first, and its choice.
+-- The first candidate of all by a carrier's address or age is the first gap of one carrier. So is
+-- the lowest gap of all, since carriers lie apart. So code may find the carrier first, and then the
+-- gap.
+-- `choice_empty` is there so that a block lies in the carrier that was created for it because good
+-- fit or address fit found nothing: they may pass over its gap.
+-- Source: Erlang/OTP, 'erts_alloc', section 'The alloc_util Framework', each strategy by its name.
+-- Ties, the order by age, and what happens if nothing fits are this simulator's own.
 use Rattle.std.specs.Prelude.{ℕ, ◌+◌, ◌*◌, Bool, true, false, nat_lt, nat_le, if◌then◌else◌, List}
 use Rattle.std.specs.Prelude.{[], ◌∷◌, Option, Some, None, filter, map}
 use Rattle.std.specs.List.{flat_map}

@@ -1,4 +1,7 @@
--- What a trace holds, and the traces that are valid.
+-- What a trace holds, and the traces that are valid. It defines what each operation does with
+-- names. A valid trace is defined by counting over all operations, and nothing is said of lines. A
+-- list of a definition has no capacity for more items (`listed`), and `plain` is a trace of which
+-- all lists are such.
 use Rattle.std.specs.Prelude.{◌≡◌, ℕ, ◌+◌, ◌*◌, ◌≤◌, ◌⊎◌, max, Bool, true, false, ◌&&◌, ◌||◌, ◌==◌}
 use Rattle.std.specs.Prelude.{List, [], ◌∷◌, ◌++◌, All, count_by, flat_map, length, map}
 use Rattle.std.specs.Prelude.{Option, None, Some, if◌then◌else◌}

@@ -1,4 +1,11 @@
--- Units of 8 bytes.
+-- Needs and pages. Sizes and offsets are in units of 8 bytes, and pages have 512 units. Defined
+-- here are the units that a request takes with its block's header, and the pages of units and of
+-- the least carrier.
+-- Public sources are documents of Erlang/OTP: 'erts_alloc' is the reference manual; 'Carrier
+-- Migration', 'Delayed Dealloc' and 'Super Carrier' are internal documents. The head of a file of
+-- definitions names the source of its rules. What is called this simulator's own these documents
+-- leave undecided, or they do not speak of it.
+-- This simulator's own: the sources leave it undecided.
 use Rattle.std.specs.Prelude.{ℕ, ◌+◌, ◌-◌, ◌/◌, ◌%◌, max}
 use Rattle.ea_model.specs.declared.units.TheConstants.{BLOCK_HEADER, HEADER_UNITS, MIN_BLOCK, PAGE_UNITS}
 use Rattle.ea_model.specs.declared.units.TheConstants.{UNIT_BYTES}

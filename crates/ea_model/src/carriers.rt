@@ -7,6 +7,8 @@ use crate::keyed::Keyed;
 use crate::units::NUMBERS;
 
 /// How a gap is chosen inside a carrier.
+///
+/// The orders are those of Erlang/OTP's 'erts_alloc', section 'The alloc_util Framework'.
 #[derive(Debug, Clone, Copy, PartialEq, Eq)]
 pub enum Inner {
     /// Best fit: the least size, among equals the highest offset.
@@ -75,6 +77,8 @@ pub struct Place {
 }
 
 /// Pages that lie one after another: a carrier's segment, or a run of free pages.
+///
+/// The word is that of Erlang/OTP's 'erts_alloc', section 'Allocators', mseg_alloc.
 #[derive(Debug, Clone, Copy, PartialEq, Eq)]
 pub struct Segment {
     /// Its first page.
@@ -99,6 +103,8 @@ pub struct Extent {
 }
 
 /// The kinds of carriers.
+///
+/// They are those of Erlang/OTP's 'erts_alloc', section 'The alloc_util Framework'.
 #[derive(Debug, Clone, Copy, PartialEq, Eq)]
 pub enum Kind {
     /// An instance's first multiblock carrier, made before the run and never deallocated.
@@ -110,6 +116,9 @@ pub enum Kind {
 }
 
 /// What a carrier's owner word says of a carrier that is there.
+///
+/// Employed, pooled and busy carriers are those of Erlang/OTP's 'Carrier Migration', section
+/// 'Migration'; returning is this simulator's.
 #[derive(Debug, Clone, Copy, PartialEq, Eq)]
 pub enum Standing {
     /// An instance allocates in it.
@@ -123,6 +132,8 @@ pub enum Standing {
 }
 
 /// A carrier at the end of a run.
+///
+/// Its owner and its employer are those of Erlang/OTP's 'Carrier Migration', section 'Migration'.
 #[derive(Debug, Clone, Copy, PartialEq, Eq)]
 pub struct CarrierLine {
     pub number: u32,

@@ -38,6 +38,9 @@ pub struct Reports {
 
 /// What came of an operation. A type parameter stands for the allocator information: in what
 /// contracts see it is the reports themselves, and a log keeps where they stand.
+///
+/// A block is queued as in Erlang/OTP's 'Delayed Dealloc', section 'Functionality Used to Address
+/// This problem'.
 #[derive(Debug, Copy, PartialEq, Eq)]
 pub enum Entry<R> {
     /// A block was placed.

@@ -6,6 +6,8 @@ ghost use Rattle.ea_model.specs.Settings.{is_above_threshold, lets_migrate, regi
 use crate::units::MEGABYTE_PAGES;
 
 /// How a gap is chosen among the carriers of an instance.
+///
+/// The strategies are those of Erlang/OTP's 'erts_alloc', section 'The alloc_util Framework'.
 #[derive(Debug, Clone, Copy, PartialEq, Eq)]
 pub enum Strategy {
     /// Best fit.
@@ -31,6 +33,9 @@ pub enum Strategy {
 }
 
 /// The allocators of the runtime, by the letter of their flags.
+///
+/// The letters are those of Erlang/OTP's 'erts_alloc', section 'System Flags Effecting
+/// erts_alloc'.
 #[derive(Debug, Clone, Copy, PartialEq, Eq)]
 pub enum Letter {
     B,
@@ -44,6 +49,9 @@ pub enum Letter {
 }
 
 /// The settings of one allocator. Sizes of carriers and thresholds are in units, 128 a kilobyte.
+///
+/// They have the names of the flags of Erlang/OTP's 'erts_alloc', section 'Flags for Configuration
+/// of Allocators Based on alloc_util'.
 #[derive(Debug, Clone, Copy, PartialEq, Eq)]
 pub struct Settings {
     /// The strategy.
@@ -95,6 +103,9 @@ impl Settings {
 
 /// What all flags set: the schedulers, the super carrier in megabytes, and each allocator's
 /// settings.
+///
+/// The super carrier is that of the flag `+MMscs` of Erlang/OTP's 'erts_alloc', section 'Flags for
+/// Configuration of mseg_alloc', and of the internal document 'Super Carrier'.
 #[derive(Debug, Clone, Copy, PartialEq, Eq)]
 pub struct Config {
     pub schedulers: u32,

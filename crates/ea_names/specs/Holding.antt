@@ -1,4 +1,5 @@
--- Names with the spots of their blocks, in a table.
+-- Names with the spots of their blocks, in a table: the names that it holds, and those that have
+-- places.
 use Rattle.std.specs.Prelude.{◌≡◌, ◌≢◌, ℕ, ◌+◌, ◌/◌, ◌≤◌, Bool, true, false, List, [], ◌∷◌, ◌++◌}
 use Rattle.std.specs.Prelude.{Option, None, Some, get_or, length, map}
 use Rattle.ea_model.specs.declared.carriers.Spot.{Spot}

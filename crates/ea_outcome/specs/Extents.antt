@@ -1,4 +1,4 @@
--- Where blocks lie in the super carrier.
+-- Where the block of a name lies in the super carrier (`LiesWhere`).
 use Rattle.std.specs.Prelude.{◌≡◌, ◌⊎◌, ℕ, ◌+◌, ◌*◌, List, Option, Some, option_map, slice_get}
 use Rattle.std.specs.Option.{option_and_then}
 use Rattle.ea_model.specs.declared.carriers.Extent.{Extent}

@@ -1,4 +1,5 @@
--- Schedulers in a state in which nobody steps.
+-- Schedulers in a state in which nobody steps, and what is printed then (`IsOutcome`). `IsOutcome`
+-- speaks of all turns after which the schedulers stand so; the outcome of all is one.
 use Rattle.std.specs.Prelude.{◌≡◌, ℕ, ◌+◌, ◌-◌, ◌*◌, ◌≤◌, nat_le, Bool, true, false, ◌&&◌}
 use Rattle.std.specs.Prelude.{List, [], ◌∷◌, Option, None, Some, All, AllPairs, flat_map, is_some}
 use Rattle.std.specs.Prelude.{length, map, option_map, slice_get, sum_by}

@@ -1,4 +1,4 @@
--- The first position with a great value.
+-- The first position with at least a given value.
 use Rattle.std.specs.Prelude.{ℕ, ◌<◌, ◌≤◌, List, length, slice_index}
 
 -- p is the least position with at least that value

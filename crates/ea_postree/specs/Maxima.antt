@@ -1,4 +1,5 @@
--- A flat complete binary tree: the root is node 1, and nodes 2n and 2n + 1 are below node n.
+-- How a tree is stored in an array: a flat complete binary tree. The root is node 1, and nodes 2n
+-- and 2n + 1 are below node n. This file serves private functions and invariants.
 use Rattle.std.specs.Prelude.{◌≡◌, ℕ, ◌+◌, ◌*◌, ◌^◌, ◌<◌, ◌≤◌, ◌++◌, max, List, length, drop, take}
 use Rattle.std.specs.Prelude.{replicate, slice_index}
 use Rattle.std.specs.Int.{IsPowerOfTwo}

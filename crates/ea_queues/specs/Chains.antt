@@ -1,4 +1,5 @@
--- Queues in plain memory: each node has a cell, which knows the next older node.
+-- Queues in plain memory: each node has a cell, which knows the next older node. First nodes and
+-- cells stand for queues and for what is left of walks (`queueing_of`, `StandFor`).
 use Rattle.std.specs.Prelude.{◌≡◌, ℕ, zero, suc, ◌+◌, ◌-◌, ◌*◌, ◌≤◌, false, List, [], ◌∷◌, All}
 use Rattle.std.specs.Prelude.{Option, None, Some, get_or, length, map}
 use Rattle.ea_model.specs.declared.units.TheConstants.{NUMBERS}

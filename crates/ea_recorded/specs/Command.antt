@@ -1,4 +1,5 @@
--- The language of the command, inputs of recorded operations.
+-- The language of the command `recorded`, inputs of recorded operations (`recorded_traces`).
+-- This simulator's own: the sources do not speak of it.
 use Rattle.std.specs.Prelude.{true}
 use Rattle.ea_frame.specs.Language.{Language}
 use Rattle.ea_model.specs.declared.trace.Trace.{Trace}

@@ -1,4 +1,4 @@
--- What an input of recorded operations is read as.
+-- What an input of recorded operations is read as: what it asks for, or its refusal.
 use Rattle.std.specs.Prelude.{◌≡◌, Result, Ok, Err}
 use Rattle.ea_model.specs.Trace.{plain}
 use Rattle.ea_trace.specs.declared.fault.TraceFault.{TraceFault}

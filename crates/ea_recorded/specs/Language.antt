@@ -1,5 +1,7 @@
--- The language of recorded operations: which line may stand where, the trace that the lines are,
--- and what is refused. A line is the list of its words.
+-- The language of recorded operations: which line may stand where, the trace that the lines are
+-- (`trace_lines`), and what is refused. A line is the list of its words. A line of the trace that
+-- isn't in the input has the number 0 in `trace_lines`. It is never refused; no clause says so.
+-- This simulator's own: the sources do not speak of it.
 use Rattle.std.specs.Prelude.{ℕ, zero, suc, ◌+◌, ◌-◌, ◌==◌, Bool, true, false, ◌||◌, not}
 use Rattle.std.specs.Prelude.{if◌then◌else◌, List, [], ◌∷◌, ◌++◌, Option, None, Some, Result, Ok, Err}
 use Rattle.std.specs.Prelude.{codes, decimal, filter, map, slice_index_or}

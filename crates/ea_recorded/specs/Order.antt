@@ -1,4 +1,6 @@
--- The turns in which lines are run one after another, each whole before the next one begins.
+-- The turns in which lines are run one after another, each whole before the next one begins
+-- (`recorded_turns`).
+-- This simulator's own: the sources do not speak of it.
 use Rattle.std.specs.Prelude.{ℕ, zero, suc, nat_lt, Bool, true, false, ◌||◌, List, [], ◌∷◌}
 use Rattle.std.specs.Prelude.{◌++◌}
 use Rattle.ea_machine.specs.Completion.{complete, work}

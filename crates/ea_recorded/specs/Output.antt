@@ -1,4 +1,5 @@
 -- The text of a run of recorded operations.
+-- This simulator's own: the sources do not speak of it.
 use Rattle.std.specs.Prelude.{◌≡◌, ℕ, List}
 use Rattle.ea_model.specs.declared.settings.Config.{Config}
 use Rattle.ea_model.specs.Trace.{IsValidTrace}

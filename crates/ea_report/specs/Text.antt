@@ -1,4 +1,6 @@
--- The output text of a run.
+-- The output text of a run: of all of its outcome (`outcome_text`), or the counts of a generated
+-- trace (`summary_text`).
+-- This simulator's own: the sources do not speak of it.
 use Rattle.std.specs.Prelude.{ℕ, ◌+◌, Bool, true, false, List, [], ◌∷◌, ◌++◌, codes, decimal}
 use Rattle.std.specs.Prelude.{count_by}
 use Rattle.std.specs.List.{flat_map}

@@ -1,4 +1,4 @@
--- The blocks of a singleblock carrier.
+-- The blocks of a singleblock carrier: one block, or none after its release.
 use Rattle.std.specs.Prelude.{List, [], ◌∷◌, Option, None, Some}
 use Rattle.ea_model.specs.declared.carriers.Block.{Block}
 use Rattle.ea_model.specs.declared.carriers.BlockAt.{BlockAt}

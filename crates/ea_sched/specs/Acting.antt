@@ -1,4 +1,4 @@
--- A scheduler as an actor of the machine.
+-- A scheduler as an actor of the machine (`actor_of`).
 use Rattle.std.specs.Prelude.{◌≡◌, ℕ, Bool, false, ◌==◌, ◌&&◌, ◌||◌, not, Option, None, Some}
 use Rattle.std.specs.Prelude.{List, [], ◌∷◌, drop}
 use Rattle.ea_model.specs.Entries.{Entry}

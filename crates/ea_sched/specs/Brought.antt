@@ -1,4 +1,4 @@
--- The names that operations bring to their scheduler.
+-- The names that operations bring to their scheduler, and that need places.
 use Rattle.std.specs.Prelude.{◌≡◌, ℕ, Bool, true, List, Option, None, Some, All}
 use Rattle.ea_model.specs.declared.operations.Op.{Op}
 use Rattle.ea_model.specs.declared.operations.Op.TheVariants.{Alloc, Free, Realloc}

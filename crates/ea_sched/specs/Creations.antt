@@ -1,4 +1,4 @@
--- Steps that plan a multiblock carrier: for want of memory only these fail.
+-- Steps that plan a multiblock carrier (`Plans`). For want of memory only these steps fail.
 use Rattle.std.specs.Prelude.{◌≡◌, ◌≢◌, ℕ, ◌+◌, false, List, IfSome, Ok}
 use Rattle.ea_model.specs.declared.carriers.CarrierPlan.{CarrierPlan}
 use Rattle.ea_model.specs.declared.settings.Config.{Config}

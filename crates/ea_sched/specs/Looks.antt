@@ -1,4 +1,4 @@
--- Turns that a scheduler takes in a row.
+-- Turns that a scheduler takes in a row: looks, in which no operation is done (`IsQuiet`).
 use Rattle.std.specs.Prelude.{◌≡◌, ℕ, ◌≤◌, false, Option, None, Some}
 use Rattle.ea_sound.specs.Turns.{is_ended}
 use Rattle.ea_sched.specs.declared.state.Scheduler.{Scheduler}

@@ -1,4 +1,6 @@
--- A scheduler in a run, and its step there.
+-- A scheduler in a run: when it may step (`Ready`), and what it did (`DidRow`, `Stepped`). It may
+-- step if it stands so after turns of its run. Something has to be told (`some`), since an object
+-- that tells nothing keeps every clause.
 use Rattle.std.specs.Prelude.{◌≡◌, ◌⊎◌, ℕ, List, ◌++◌, None, Some, IfSome, IsSome, replicate}
 use Rattle.ea_model.specs.declared.settings.Config.{Config}
 use Rattle.ea_model.specs.declared.trace.Trace.{Trace}

@@ -1,4 +1,7 @@
--- What a history of calls leaves taken, and which replies are those that one thread gets.
+-- What a history of calls leaves taken, which replies are those that one thread gets (`reply_at`,
+-- `IsLegal`), and when a history is sound (`IsSound`). A segment has its turn: the number of calls
+-- before the one that took it. 'Taken first' means the least turn.
+-- This simulator's own: the sources leave it undecided.
 use Rattle.std.specs.Prelude.{◌≡◌, ℕ, ◌+◌, ◌≤◌, Bool, ◌&&◌, nat_le, nat_lt, ◌==◌}
 use Rattle.std.specs.Prelude.{if◌then◌else◌, List, [], ◌∷◌, ◌++◌, Option, None, Some, AllPairs}
 use Rattle.std.specs.Prelude.{filter, fold, length, map, sum_by}

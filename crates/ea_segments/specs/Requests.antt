@@ -1,4 +1,4 @@
--- Requests, the calls that make them, and the book of a region.
+-- Requests, the calls that make them, and the book of a region (`IsBookOf`).
 use Rattle.std.specs.Prelude.{◌≡◌, ℕ, ◌+◌, ◌<◌, ◌≤◌, ◌==◌, if◌then◌else◌, List, All, length, map}
 use Rattle.std.specs.Prelude.{slice_index_or, sum_by}
 use Rattle.ea_model.specs.Lists.{Items}

@@ -1,4 +1,6 @@
--- The rule of the table: one history, of which each seat has seen a front.
+-- The rule of the table and its lock: one history, of which each seat has seen the first calls.
+-- `Keeps` doesn't say that the history is legal. That is the invariant of a `Ledger`, and whoever
+-- reads the history has it.
 use Rattle.std.specs.Prelude.{◌≡◌, ◌≢◌, ◌⊎◌, ℕ, ◌+◌, ◌-◌, ◌≤◌, true, false, List, [], ◌∷◌, ◌++◌}
 use Rattle.std.specs.Prelude.{All, drop, length, sum_by}
 use mathlib.Core.Option.{none, some}

@@ -1,4 +1,4 @@
--- Passes and their desk, and what a pass knows after its calls.
+-- Passes and their desk, and what a pass knows after its calls (`Called`).
 use Rattle.std.specs.Prelude.{◌≡◌, ℕ, ◌+◌, ◌<◌, List, ◌∷◌, ◌++◌, [], All, length, map}
 use Rattle.std.specs.Prelude.{slice_index_or}
 use Rattle.atomic_table.specs.Seated.{TableId}

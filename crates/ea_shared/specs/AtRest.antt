@@ -1,4 +1,4 @@
--- What schedulers share, where nobody steps.
+-- What schedulers share, where nobody steps (`SharedAtRest`).
 use Rattle.std.specs.Prelude.{ℕ, Bool, List}
 use Rattle.ea_machine.specs.declared.nodes.Named.{Named}
 use Rattle.ea_machine.specs.Owners.{CarrierAt}

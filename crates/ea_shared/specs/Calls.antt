@@ -1,4 +1,11 @@
--- What a call on what schedulers share asks for, and what it does.
+-- A call on what schedulers share: what it asks for (`IsWanted`) and what it does (`Did`), in terms
+-- of what is told (`Told`).
+-- A clause of a call of `Shared` speaks only of what is told. An object that tells nothing keeps
+-- every clause, so `Scheduler::step_upto` requires that something is told.
+-- If the caller is told, others may have stepped since then. The caller knows the first turns
+-- before its call (`KnowsFront`). All later turns are of others, and it learns neither which they
+-- are nor how many. Of what is shared it knows how many nodes are left of its walk (`rest`), since
+-- only it takes its queue and passes nodes.
 use Rattle.std.specs.Prelude.{◌≡◌, ◌≢◌, ℕ, Bool, List, [], ◌∷◌, ◌++◌, All, Option, None, Some}
 use Rattle.std.specs.Prelude.{IfSome, length}
 use Rattle.ea_machine.specs.Setup.{Setup}

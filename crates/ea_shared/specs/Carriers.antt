@@ -1,5 +1,5 @@
--- Where carriers are before the first step, what a try to get one tells, and what is handed to a
--- call that puts one home.
+-- Where carriers are before the first step (`main_upto`), the content that is at home (`home_of`),
+-- what a try to get a carrier tells, and what is handed to a call that puts one home.
 use Rattle.std.specs.Prelude.{◌≡◌, ◌≢◌, ℕ, ◌*◌, ◌<◌, ◌≤◌, ◌&&◌, ◌==◌, Bool, false, nat_le}
 use Rattle.std.specs.Prelude.{[], ◌∷◌, Option, None, Some}
 use Rattle.ea_model.specs.declared.units.TheConstants.{NUMBERS}

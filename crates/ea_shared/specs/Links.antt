@@ -1,4 +1,4 @@
--- What a walk learns by a link.
+-- What a link tells a walk (`told_by`).
 use Rattle.std.specs.Prelude.{None, Some}
 use Rattle.ea_machine.specs.Rows.{Answer, Passes, Rests}
 use Rattle.ea_shared.specs.declared.link.Link.{Link}

@@ -1,4 +1,5 @@
--- Sizes by position.
+-- Sizes by position (`Sizes`): the least size that is large enough, and the lowest and the highest
+-- position that holds a size.
 use Rattle.std.specs.Prelude.{◌≡◌, ℕ, ◌<◌, ◌≤◌, List, All, Contains, length, slice_index}
 
 -- the greatest size that may be held, and the size held by each position, 0 where none is

@@ -1,4 +1,4 @@
--- Sizes and positions as keys.
+-- How sizes and positions are keys. This file serves private functions and invariants.
 use Rattle.std.specs.Prelude.{◌≡◌, ℕ, ◌+◌, ◌*◌, ◌/◌, ◌%◌, ◌^◌, ◌<◌, ◌≤◌, ◌==◌, if◌then◌else◌, min}
 use Rattle.std.specs.Prelude.{List, Option, Some, None, length, map, slice_index_or, sum_by}
 use Rattle.std.specs.List.{range_with_len}

@@ -1,4 +1,5 @@
--- Keys at places of any order, and the places that hold none.
+-- Keys at places of any order, and the places that hold none. This file serves private functions
+-- and invariants.
 use Rattle.std.specs.Prelude.{◌≡◌, ℕ, ◌+◌, ◌<◌, List, Option, Some, None, length}
 use Rattle.std.specs.Prelude.{slice_index, slice_index_or, sum_by}
 

@@ -1,4 +1,4 @@
--- Blocks and contents as they are counted.
+-- Blocks and contents as they are counted. Words of proofs: no clause of `run` names them.
 use Rattle.std.specs.Prelude.{ℕ, ◌+◌, ◌<◌, ◌≤◌, ◌==◌, ◌&&◌, not}
 use Rattle.ea_model.specs.declared.carriers.Spot.{Spot}
 use Rattle.ea_model.specs.Content.{Content, can_go}

@@ -1,4 +1,6 @@
--- Where blocks are placed.
+-- Where blocks are placed, or that they stay. A moved block is placed in an earlier step than the
+-- one that makes the entry, if the old one takes steps to go. So `IsPlacement` points to that step,
+-- and to the one in which its operation began.
 use Rattle.std.specs.Prelude.{◌≡◌, ◌≢◌, ◌⊎◌, ℕ, ◌<◌, ◌≤◌, true, false, List, [], ◌∷◌, ◌++◌, None}
 use Rattle.std.specs.Prelude.{Some, Ok}
 use Rattle.ea_model.specs.declared.carriers.CarrierPlan.{CarrierPlan}

@@ -1,4 +1,5 @@
--- What the log of a scheduler says of its operations.
+-- What the log of a scheduler says of its operations. `IsSkipped` compares with the scheduler when
+-- the operation itself began (`begun`), as its queue may have been worked off before.
 use Rattle.std.specs.Prelude.{◌≡◌, ◌≢◌, ◌⊎◌, ℕ, false, List, [], ◌∷◌, ◌++◌, None, Some}
 use Rattle.std.specs.List.{AllZip}
 use Rattle.ea_model.specs.Entries.{Entry}

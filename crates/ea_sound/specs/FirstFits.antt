@@ -1,4 +1,6 @@
--- Which carrier a search fetches: the first that fits, and isn't lost.
+-- Which carrier a search fetches: the first that fits, and isn't lost. `IsFirstFit` counts all
+-- steps of the scheduler since the operation began, so no other step lies between; the first try
+-- comes a step after the begin.
 use Rattle.std.specs.Prelude.{◌≡◌, ℕ, ◌==◌, true, List, [], ◌∷◌, ◌++◌, None, Some, count_by}
 use Rattle.std.specs.Prelude.{length}
 use Rattle.ea_model.specs.declared.carriers.Spot.{Spot}

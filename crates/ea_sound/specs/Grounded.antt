@@ -1,5 +1,7 @@
 -- What guards say of the turns before: which node is in the hand of a scheduler, what it pushed and
 -- hasn't linked, and which word it saw. Each is said of the last step that the scheduler took.
+-- `IsGrounded` speaks of turns, since no state says what a scheduler saw. A word that it saw need
+-- not be the carrier's any longer when it tries.
 use Rattle.std.specs.Prelude.{◌≡◌, ◌≢◌, ◌⊎◌, ℕ, false, List, ◌∷◌, ◌++◌, Some, All, Contains}
 use Rattle.ea_model.specs.declared.carriers.Spot.{Spot}
 use Rattle.ea_model.specs.Content.{Content}

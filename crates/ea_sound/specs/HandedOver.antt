@@ -1,5 +1,15 @@
 -- How names and blocks go from one scheduler to another: one gives a name, and another takes it;
--- and a block goes to another's queue, or is released by the scheduler itself.
+-- and a block goes to another's queue, or is released by the scheduler itself. `HasTried` counts
+-- all steps of the scheduler since the operation began, so no other step lies between; the first
+-- try comes a step after the begin.
+-- `IsQueued` and `IsReleasedHere` point to the look at the block's carrier, or to the try after it,
+-- with the log as before the entry. `IsQueued` says that the node was pushed, not that it is still
+-- there: the other scheduler may have taken its queue, whose walk rests at the node until it is
+-- linked, in the step that makes the entry.
+-- Source: Erlang/OTP, 'Carrier Migration', section 'Migration': the employer of a pooled carrier
+-- does its deallocations.
+-- Source: Erlang/OTP, 'Delayed Dealloc', section 'Functionality Used to Address This problem': a
+-- freed block waits in a queue.
 use Rattle.std.specs.Prelude.{◌≡◌, ◌≢◌, ℕ, ◌==◌, true, false, List, [], ◌∷◌, ◌++◌, None, Some}
 use Rattle.std.specs.Prelude.{count_by}
 use Rattle.ea_model.specs.declared.carriers.Spot.{Spot}

@@ -1,4 +1,6 @@
--- The heap: which names are live, and which units of the super carrier the block of each has.
+-- The heap: which names are live, and which units of the super carrier the block of each has. The
+-- heap (`IsHeap`) has the names that may be used: held or given. A block in a queue, a walk or a
+-- hand has units, and no name of the heap.
 use Rattle.std.specs.Prelude.{◌≡◌, ◌≢◌, ◌⊎◌, ◌↔◌, ℕ, List, [], ◌∷◌, ◌++◌}
 use Rattle.ea_model.specs.declared.carriers.Extent.{Extent}
 use Rattle.ea_model.specs.declared.operations.Op.{Op}

@@ -1,4 +1,5 @@
--- The carriers that a scheduler employs, by what is shared.
+-- The carriers that a scheduler employs, by what is shared. Words of proofs: no clause of `run`
+-- names them.
 use Rattle.std.specs.Prelude.{◌≡◌, ◌⊎◌, ℕ, true, false}
 use Rattle.ea_machine.specs.Owners.{Employed}
 use Rattle.ea_model.specs.Instance.{owner_of}

@@ -1,4 +1,5 @@
 -- What a row leaves to the local work that follows it, so that this keeps what every moment keeps.
+-- Words of proofs: no clause of `run` names them.
 use Rattle.std.specs.Prelude.{◌≡◌, ◌≢◌, ℕ, ◌%◌, ◌<◌, ◌≤◌, Bool, true, false, None, Some, Ok}
 use Rattle.ea_model.specs.declared.carriers.CarrierPlan.{CarrierPlan}
 use Rattle.ea_model.specs.declared.carriers.Spot.{Spot}

@@ -1,5 +1,5 @@
 -- Laws of the machine: what holds of each run of a valid trace under a valid configuration,
--- whatever steps its schedulers take.
+-- whatever steps its schedulers take. `Protocol` is all of them.
 use Rattle.std.specs.Prelude.{◌≡◌, ◌≢◌, ℕ, List, [], ◌∷◌, ◌++◌, Some}
 use Rattle.ea_model.specs.declared.settings.Config.{Config}
 use Rattle.ea_model.specs.declared.trace.Trace.{Trace}

@@ -1,4 +1,4 @@
--- States in the middle of a step.
+-- States in the middle of a step. Words of proofs: no clause of `run` names them.
 use Rattle.std.specs.Prelude.{ℕ}
 use Rattle.ea_model.specs.Content.{Content}
 use Rattle.ea_machine.specs.declared.stages.Stage.{Stage}

@@ -1,4 +1,6 @@
--- Where the names of blocks stand.
+-- Where the names of blocks stand. `PlacesNames` is this part of a sound state.
+-- Source: Erlang/OTP, 'Delayed Dealloc', section 'Functionality Used to Address This problem': a
+-- freed block waits in a queue.
 use Rattle.std.specs.Prelude.{◌≡◌, ℕ, ◌+◌, ◌≤◌, AllPairs}
 use Rattle.ea_model.specs.declared.carriers.Spot.{Spot}
 use Rattle.ea_model.specs.Keyed.{IsBelow}

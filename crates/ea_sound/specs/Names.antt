@@ -1,5 +1,6 @@
 -- The names of blocks: where they stand, and the blocks that have them. What is summed here is
--- given by f, for a name and the spot where its block begins.
+-- given by f, for a name and the spot where its block begins. Collections are compared by counting:
+-- each name is counted as often among the names that stand as among those of the blocks.
 use Rattle.std.specs.Prelude.{ℕ, ◌+◌, ◌&&◌, ◌==◌, List}
 use Rattle.ea_model.specs.declared.carriers.Spot.{Spot}
 use Rattle.ea_model.specs.declared.carriers.BlockAt.{BlockAt}

@@ -1,4 +1,7 @@
 -- Where the nodes of carriers stand that return to their owners, and which nodes aren't linked.
+-- `ReturnsCarriers` and `LinksNodes` are these parts of a sound state.
+-- Source: Erlang/OTP, 'Carrier Migration', section 'Migration': the owner alone deallocates a
+-- carrier.
 use Rattle.std.specs.Prelude.{◌≡◌, ℕ, ◌+◌, ◌≤◌, ◌&&◌, Bool, true, false, ◌==◌, if◌then◌else◌, []}
 use Rattle.ea_model.specs.declared.carriers.Kind.TheVariants.{Multi}
 use Rattle.ea_model.specs.Content.{Content}

@@ -1,4 +1,6 @@
--- Where a name is: in one place at every moment.
+-- Where a name is: in one place at every moment. While the old block of a reallocation is on its
+-- way the new name is `Held`, and the old one is in the hand. A name whose block took the new name
+-- in its place is `Released`. A name is `Unmade` until its block is placed.
 use Rattle.std.specs.Prelude.{◌≡◌, ◌⊎◌, ℕ, ◌+◌, ◌<◌, Some, List}
 use Rattle.ea_machine.specs.declared.nodes.Named.{Named}
 use Rattle.ea_machine.specs.Nodes.{named_at}

@@ -1,4 +1,5 @@
--- The units of the super carrier that blocks have, wherever their carriers are.
+-- The units of the super carrier that blocks have, wherever their carriers are. `LiesOver` says
+-- that a name has such units, and `units_named` counts them.
 use Rattle.std.specs.Prelude.{◌≡◌, ◌≢◌, ℕ, ◌+◌, ◌*◌, ◌<◌, ◌≤◌, Bool, true, false, ◌&&◌, ◌==◌, List, ◌++◌}
 use Rattle.ea_model.specs.declared.carriers.BlockAt.{BlockAt}
 use Rattle.ea_model.specs.declared.carriers.Extent.{Extent}

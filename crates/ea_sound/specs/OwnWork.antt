@@ -1,6 +1,8 @@
 -- The turns until a scheduler has ended, whatever others do in between. Nodes that others push to
 -- its queue count when it takes the queue: it does so in some of its begins alone, and finds no
--- more nodes there than a queue can have. Nor does its walk pass more.
+-- more nodes there than a queue can have. Nor does its walk pass more. `own_work` is the number of
+-- those turns at most, and counts 9 for each node, as `work` does. `PassesFew` says that a walk
+-- passes no more nodes than a queue has. Words of proofs: no clause of `run` names them.
 use Rattle.std.specs.Prelude.{◌≡◌, ℕ, ◌+◌, ◌*◌, ◌<◌, ◌≤◌, List, Option, None, Some, length}
 use Rattle.ea_model.specs.declared.operations.Op.{Op}
 use Rattle.ea_model.specs.declared.settings.Config.{Config}

@@ -1,4 +1,7 @@
--- Where carriers are.
+-- Where carriers are. `PlacesCarriers` is this part of a sound state; `RecordsGaps` says that the
+-- largest gap of a pooled carrier is recorded.
+-- Source: Erlang/OTP, 'Carrier Migration', section 'Migration': the employer of a pooled carrier
+-- does its deallocations, and the owner alone deallocates a carrier.
 use Rattle.std.specs.Prelude.{◌≡◌, ◌≢◌, ◌⊎◌, ℕ, ◌<◌, ◌≤◌, Bool, true, false, ◌&&◌, ◌==◌, [], Some}
 use Rattle.std.specs.Prelude.{All}
 use Rattle.ea_model.specs.declared.carriers.Kind.TheVariants.{Main, Multi}

@@ -1,4 +1,5 @@
--- What every scheduler is in the middle of, at every moment of every run.
+-- What every scheduler is in the middle of, at every moment of every run. Words of proofs: no
+-- clause of `run` names them.
 use Rattle.std.specs.Prelude.{◌≡◌, ◌≢◌, ◌⊎◌, ℕ, ◌+◌, ◌<◌, ◌≤◌, true, false, List, [], ◌∷◌, Option}
 use Rattle.std.specs.Prelude.{None, Some, Ok, All, AllPairs}
 use Rattle.ea_model.specs.declared.carriers.Kind.TheVariants.{Multi}

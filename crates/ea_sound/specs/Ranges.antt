@@ -1,4 +1,4 @@
--- Where blocks and carriers lie.
+-- Where blocks and carriers lie. `LaysOut` is this part of a sound state.
 use Rattle.std.specs.Prelude.{◌≢◌, ◌⊎◌, ℕ, ◌+◌, All}
 use Rattle.ea_model.specs.Content.{Content}
 use Rattle.ea_model.specs.Trace.{IsScheduler}

@@ -1,4 +1,5 @@
--- The release of a block where carriers don't migrate.
+-- The release of a block where carriers don't migrate. `freed_at` is the instance then. Words of
+-- proofs: no clause of `run` names them.
 use Rattle.std.specs.Prelude.{ℕ, Bool, true, false}
 use Rattle.ea_model.specs.declared.carriers.Spot.{Spot}
 use Rattle.ea_model.specs.Employment.{dismissing, disowning}

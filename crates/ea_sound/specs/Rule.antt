@@ -1,5 +1,6 @@
 -- What every moment of every run keeps. Each balance holds for every weight, so it says that two
--- collections are the same: under a weight that counts one thing it counts that thing.
+-- collections are the same: under a weight that counts one thing it counts that thing. Words of
+-- proofs: no clause of `run` names them (docs/proof.md).
 use Rattle.std.specs.Prelude.{◌≡◌, ◌≢◌, ℕ, ◌+◌, ◌*◌, ◌/◌, ◌≤◌, Bool, true, false, [], All}
 use Rattle.ea_model.specs.declared.carriers.Kind.TheVariants.{Multi}
 use Rattle.ea_model.specs.declared.carriers.OwnCarrier.{OwnCarrier}

@@ -1,4 +1,4 @@
--- What a search for a carrier saw.
+-- What a search for a carrier saw. `Searched` names the lists as the search leaves them.
 use Rattle.std.specs.Prelude.{◌≡◌, ◌⊎◌, ℕ, ◌<◌, ◌≤◌, Bool, true, false, ◌==◌, List, [], ◌∷◌}
 use Rattle.std.specs.Prelude.{◌++◌}
 use Rattle.ea_model.specs.Content.{Content}

@@ -1,4 +1,8 @@
--- What a scheduler sees of the carrier of a block that its operation releases: who employs it.
+-- What a scheduler sees of the carrier of a block that its operation releases: who employs it. An
+-- operation looks once at the carrier of the block that it releases, and tries once to make it
+-- busy.
+-- Source: Erlang/OTP, 'Carrier Migration', section 'Migration': the employer of a pooled carrier
+-- does its deallocations.
 use Rattle.std.specs.Prelude.{◌≡◌, ℕ, List, ◌∷◌, ◌++◌}
 use Rattle.ea_model.specs.Entries.{Entry}
 use Rattle.ea_model.specs.Content.{Content}

@@ -1,4 +1,4 @@
--- When a state is sound.
+-- When a state is sound. `Sound` is all the parts together.
 use Rattle.std.specs.Prelude.{◌≡◌, ℕ, ◌+◌, []}
 use Rattle.ea_model.specs.Trace.{IsScheduler}
 use Rattle.ea_machine.specs.Setup.{Setup, first_page}

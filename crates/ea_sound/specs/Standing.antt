@@ -1,4 +1,7 @@
 -- Nodes that stand in queues and in what is left of walks, and the older ones behind them.
+-- `standing_nodes` is 0 or 1 in each reached state. It is counted because a step changes a count by
+-- one. `IsOlderAt` says which node is the next older one. Words of proofs: no clause of `run` names
+-- them.
 use Rattle.std.specs.Prelude.{◌≡◌, ◌⊎◌, ℕ, suc, ◌+◌, List, ◌∷◌, ◌++◌, Option}
 use Rattle.ea_machine.specs.declared.nodes.Node.{Node}
 use Rattle.ea_machine.specs.Alike.{alike_in}

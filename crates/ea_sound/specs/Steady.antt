@@ -1,4 +1,5 @@
--- What the steps of a scheduler keep of its walk and of its route, whatever the others do.
+-- What the steps of a scheduler keep of its walk and of its route, whatever the others do. Guards
+-- need it beside the rule. Words of proofs: no clause of `run` names them.
 use Rattle.std.specs.Prelude.{◌≡◌, ℕ, Bool, true, false, List, [], ◌∷◌, None}
 use Rattle.ea_model.specs.Content.{Content}
 use Rattle.ea_machine.specs.declared.owners.OwnerWord.{OwnerWord}

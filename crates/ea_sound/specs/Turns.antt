@@ -1,4 +1,4 @@
--- What a scheduler does in one step of a run.
+-- What a scheduler does in one step of a run. `is_ended` says whether its text is done.
 use Rattle.std.specs.Prelude.{◌≡◌, ℕ, Bool, true, false, List, Some}
 use Rattle.ea_model.specs.Content.{Content}
 use Rattle.ea_model.specs.Entries.{Entry}

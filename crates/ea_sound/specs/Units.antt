@@ -1,4 +1,5 @@
--- The units of all carriers.
+-- The units of all carriers. `SumsUnits` says that they add up, and is a part of a sound state;
+-- `PrintsSums` says that these sums are printed.
 use Rattle.std.specs.Prelude.{◌≡◌, ℕ, ◌+◌, ◌==◌, if◌then◌else◌}
 use Rattle.ea_model.specs.declared.carriers.Spot.{Spot}
 use Rattle.ea_model.specs.declared.units.TheConstants.{HEADER_UNITS}

@@ -1,4 +1,6 @@
--- The nodes that a walk passed, and how they are worked off where carriers don't migrate.
+-- The nodes that a walk passed, and how they are worked off where carriers don't migrate. `worked`
+-- is what they leave, and `CanAllGo` says that all can be released. Words of proofs: no clause of
+-- `run` names them.
 use Rattle.std.specs.Prelude.{◌≡◌, ℕ, Bool, true, false, ◌==◌, List, [], ◌∷◌, Option, None, Some}
 use Rattle.std.specs.Prelude.{IsSome}
 use Rattle.ea_model.specs.declared.carriers.Spot.{Spot}

@@ -1,4 +1,4 @@
--- What is true of each request that was read.
+-- The requests that were read: what holds of the size of each.
 use Rattle.std.specs.Prelude.{◌≡◌, ℕ, Bool, true, nat_le, List, All, length, sum_by}
 use Rattle.ea_model.specs.Lists.{Items}
 use Rattle.ea_segments.specs.declared.calls.Request.{Request}

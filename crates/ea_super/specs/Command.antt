@@ -1,4 +1,6 @@
--- The language of the command, inputs for one region that schedulers share.
+-- The language of the command `super`, inputs for one region that schedulers share
+-- (`shared_region`).
+-- This simulator's own: the sources do not speak of it.
 use Rattle.std.specs.Prelude.{◌≡◌, ℕ, ◌*◌, true, List, map}
 use Rattle.ea_frame.specs.Language.{Language}
 use Rattle.ea_model.specs.Trace.{listed}

@@ -1,5 +1,7 @@
--- The language of `super` inputs: which line may follow which, and what a text asks for. Lines, and
--- the requests of lines, are lists with the newest first, if nothing else is said.
+-- The language of `super` inputs: which line may follow which, and what a text asks for
+-- (`requests_in`). Lines, and the requests of lines, are lists with the newest first, if nothing
+-- else is said.
+-- This simulator's own: the sources do not speak of it.
 use Rattle.std.specs.Prelude.{ℕ, ◌+◌, Bool, true, false, ◌&&◌, not, if◌then◌else◌, nat_lt}
 use Rattle.std.specs.Prelude.{◌==◌, List, [], ◌∷◌, ◌++◌, Option, Some, None, Result, Ok, Err}
 use Rattle.std.specs.Prelude.{length, map, reverse}

@@ -1,4 +1,5 @@
 -- What one line says, by itself. Words, names and numbers are those of traces.
+-- This simulator's own: the sources do not speak of it.
 use Rattle.std.specs.Prelude.{ℕ, if◌then◌else◌, List, [], ◌∷◌, Option, None, bytes_eq, codes}
 use Rattle.std.specs.Prelude.{option_and_then, option_map, unwrap_or}
 use Rattle.ea_model.specs.Words.{number}

@@ -1,4 +1,4 @@
--- What the reader answers.
+-- The result of the reader: the requests of an input, or its refusal.
 use Rattle.std.specs.Prelude.{◌≡◌, List, Result, Ok, Err, map}
 use Rattle.ea_model.specs.Lists.{Items}
 use Rattle.ea_segments.specs.declared.calls.Request.{Request}

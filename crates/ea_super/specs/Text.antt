@@ -1,4 +1,5 @@
--- The text of a book.
+-- The text of a book (`book_text`).
+-- This simulator's own: the sources do not speak of it.
 use Rattle.std.specs.Prelude.{ℕ, List, ◌++◌, codes, decimal}
 use Rattle.std.specs.List.{flat_map}
 use Rattle.ea_segments.specs.declared.calls.Book.{Book}

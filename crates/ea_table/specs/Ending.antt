@@ -1,4 +1,6 @@
--- How a run ends.
+-- How a run ends, and what words and slots tell then (`IsCounted`, `IsEnd`).
+-- How many of a seat's turns are its own is counted at the end of a run with threads (`count_of`).
+-- A seat has to know there how many steps are left until its scheduler's stop.
 use Rattle.std.specs.Prelude.{◌≡◌, ℕ, ◌+◌, ◌*◌, ◌<◌, ◌≤◌, nat_le}
 use Rattle.std.specs.Prelude.{Option, get_or, length}
 use Rattle.std.specs.List.{range_with_len}

@@ -1,5 +1,9 @@
--- The rule of the table: its words are the coding of what is shared after a list of steps, its
--- slots have the contents that are at home, and each seat knows its scheduler as that stands then.
+-- The rule of the table (`Keeps`): its words are the coding of what is shared after a list of
+-- steps, its slots have the contents that are at home, and each seat knows its scheduler as that
+-- stands then. The list grows by one turn with each atomic step, and by nothing else. `Took` and
+-- `DidRow` say what a seat knows after a step.
+-- A view of a seat is data of proofs. It has the turns up to its scheduler's last step, and not the
+-- state, which others change. `Keeps` speaks of each seat, also of a spent one (`live`).
 use Rattle.std.specs.Prelude.{◌≡◌, ◌≢◌, ℕ, ◌≤◌, true, false, ◌==◌, if◌then◌else◌}
 use Rattle.std.specs.Prelude.{List, [], ◌∷◌, ◌++◌, All, map, Option, None, Some, IfSome}
 use Rattle.std.specs.List.{range_with_len}

@@ -1,4 +1,4 @@
--- Seats, passes and their table.
+-- Seats, passes and their table: when a pass is at its board.
 use Rattle.std.specs.Prelude.{◌≡◌}
 use Rattle.atomic_table.specs.Seated.{TableId}
 use Rattle.ea_table.specs.declared.board.Board.{Board}

@@ -1,5 +1,6 @@
 -- The slots of the table: one for each carrier number, with the content that is at home there. A
--- content is put into a slot, and taken out of it, by a seat that has claimed the slot.
+-- content is put into a slot, and taken out of it, by a seat that has claimed the slot. A `Move` is
+-- what a row does with slots.
 use Rattle.std.specs.Prelude.{◌≡◌, ◌≢◌, ◌⊎◌, ℕ, ◌-◌, ◌*◌, ◌≤◌, Bool, true, false, List}
 use Rattle.std.specs.Prelude.{Option, None, Some, length}
 use mathlib.Core.Option.{some}

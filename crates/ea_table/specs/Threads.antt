@@ -1,4 +1,5 @@
--- Schedulers that run beside each other.
+-- Schedulers that run beside each other: workers before a run and after it (`IsFresh`, `IsAtRest`),
+-- and the outcome of the run (`IsOfRun`).
 use Rattle.std.specs.Prelude.{◌≡◌, ℕ, List, true, false, IsFalse}
 use Rattle.atomic_table.specs.Seated.{TableId}
 use Rattle.ea_model.specs.declared.outcome.Outcome.{Outcome}

@@ -1,6 +1,7 @@
 -- The words of the table, and what they stand for: first the heads of the queues, then a link for
 -- each name and each carrier number, then a word for each name that may be given, and then the
--- owner word of each carrier number.
+-- owner word of each carrier number. `Codes` says that the words are the code of what is shared.
+-- The link word of a node that stands nowhere is 0 (`free`).
 use Rattle.std.specs.Prelude.{◌≡◌, ℕ, ◌+◌, ◌-◌, ◌*◌, ◌<◌, ◌≤◌, Bool, true, false, List}
 use Rattle.std.specs.Prelude.{[], ◌∷◌, All, Option, None, Some, length, slice_index}
 use Rattle.ea_model.specs.declared.carriers.Spot.{Spot}

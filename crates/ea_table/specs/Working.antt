@@ -1,4 +1,4 @@
--- A worker that can pause.
+-- A worker that can pause, in a run (`AtWork`).
 use Rattle.std.specs.Prelude.{◌≡◌, ℕ, false, true, length}
 use Rattle.atomic_table.specs.Seated.{TableId}
 use Rattle.ea_model.specs.declared.settings.Config.{Config}

@@ -1,4 +1,5 @@
--- Numbers by pages, of which those that are used stand one after another.
+-- Numbers by pages (`numbers`), of which those that are used stand one after another. `IsPaged`
+-- also says that there is room for all pages.
 use Rattle.std.specs.Prelude.{◌≡◌, ◌≢◌, ℕ, ◌+◌, ◌-◌, ◌*◌, ◌/◌, ◌%◌, ◌≤◌, ◌==◌, if◌then◌else◌, min}
 use Rattle.std.specs.Prelude.{List, length, map, slice_index, sum_by}
 use Rattle.std.specs.List.{range_with_len}

@@ -1,4 +1,4 @@
--- The word of a header.
+-- The word of a header, as a number (`code`).
 use Rattle.std.specs.Prelude.{ℕ, ◌+◌, ◌*◌, Bool, if◌then◌else◌}
 use Rattle.ea_tags.specs.declared.header.Header.{Header}
 

@@ -1,4 +1,4 @@
--- What the top call answers, by its words and its input: what ea_frame says of the language of
+-- The result of the top call, by its words and its input: what ea_frame says of the language of
 -- traces.
 use Rattle.std.specs.Prelude.{ℕ, List, Option}
 use Rattle.std.specs.declared.string.String.{String}

@@ -1,4 +1,4 @@
--- What holds of each valid trace.
+-- A statement about each valid trace.
 use Rattle.std.specs.Prelude.{◌≡◌, List, Ok}
 use Rattle.std.specs.declared.string.String.{String}
 use Rattle.ea_flags.specs.Flags.{flags}

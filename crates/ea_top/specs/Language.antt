@@ -1,4 +1,5 @@
--- The language of traces, as the top call has it.
+-- The language of traces, as the top call has it (`traces`).
+-- This simulator's own: the sources do not speak of it.
 use Rattle.std.specs.Prelude.{true}
 use Rattle.ea_frame.specs.Language.{Language}
 use Rattle.ea_model.specs.declared.trace.Trace.{Trace}

@@ -1,4 +1,6 @@
--- The output of the run of a trace.
+-- The output of the run of a trace: the trace that is run (`filled_by`), and its texts
+-- (`IsRunText`).
+-- This simulator's own: the sources do not speak of it.
 use Rattle.std.specs.Prelude.{◌≡◌, ℕ, List}
 use Rattle.ea_model.specs.declared.outcome.Outcome.{Outcome}
 use Rattle.ea_model.specs.declared.settings.Config.{Config}

@@ -1,4 +1,4 @@
--- What may be asked between the lines of a trace, by those that came before.
+-- What may be asked between the lines of a trace, by the lines before.
 use Rattle.std.specs.Prelude.{Bool, true, false, ◌&&◌, nat_lt, map, reverse}
 use Rattle.ea_trace.specs.Language.{Earlier, WordLines, no_stops, sections, stage_after}
 use Rattle.ea_trace.specs.Language.{stops_after}

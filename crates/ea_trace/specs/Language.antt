@@ -1,5 +1,11 @@
--- The trace language: which line may follow which, and what a text gives. Lines, and the operations
--- of lines, are lists with the newest first, if nothing else is said.
+-- The trace language: which line may follow which, the refusals in their order, and the trace that
+-- a text gives (`trace`). Lines, and the operations of lines, are lists with the newest first, if
+-- nothing else is said. So the number of a line is one more than the count of lines before it,
+-- skipped ones included.
+-- `refusal_at` tests the place first and the scheduler second. A wrong scheduler has its place in
+-- the opening part, so it is refused as such there, too. `is_held` looks at the lines of the
+-- section that make or take the name, not at those that free or give it.
+-- This simulator's own: the sources do not speak of it.
 use Rattle.std.specs.Prelude.{◌≡◌, ℕ, ◌+◌, ◌*◌, Bool, true, false, ◌&&◌, ◌||◌, not, if◌then◌else◌}
 use Rattle.std.specs.Prelude.{nat_lt, ◌==◌, List, [], ◌∷◌, ◌++◌, Option, Some, None, Result, Ok}
 use Rattle.std.specs.Prelude.{Err, find, length, map, reverse, sum_by}

@@ -1,4 +1,5 @@
--- What one line of a trace says, by itself.
+-- What one line of a trace says, by itself (`line_of_words`).
+-- This simulator's own: the sources do not speak of it.
 use Rattle.std.specs.Prelude.{ℕ, min, Bool, false, if◌then◌else◌, ◌==◌, List, [], ◌∷◌, Option, Some}
 use Rattle.std.specs.Prelude.{None, codes, bytes_eq, option_and_then, option_map, unwrap_or}
 use Rattle.std.specs.List.{find, slice_split}

@@ -1,4 +1,5 @@
--- The ranges of the numbers of a line.
+-- The ranges of the numbers of a line (`InRange`).
+-- This simulator's own: the sources do not speak of it.
 use Rattle.std.specs.Prelude.{◌≤◌, All}
 use Rattle.ea_model.specs.Trace.{IsName}
 use Rattle.ea_model.specs.declared.operations.Op.{Op}

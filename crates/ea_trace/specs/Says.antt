@@ -1,4 +1,5 @@
--- What a line of the code says: its turns are those that its text spells, and all else is the same.
+-- What a line of the code says (`said`): its turns are those that its text spells, and all else is
+-- the same.
 use Rattle.std.specs.Prelude.{ℕ, List, Option, Some, None}
 use Rattle.std.specs.Borrow.{Bor}
 use Rattle.ea_model.specs.Words.{words}

@@ -1,4 +1,5 @@
--- What a reader has taken.
+-- The lines that a reader has taken (`HasTaken`), where they begin a trace (`WithinTrace`). The
+-- newest line comes first.
 use Rattle.std.specs.Prelude.{◌≡◌, ℕ, ◌++◌, Option, Some, None, Ok, Err, length, map}
 use Rattle.ea_model.specs.declared.trace.Trace.{Trace}
 use Rattle.ea_trace.specs.Between.{earlier_of}

@@ -1,4 +1,5 @@
--- Two inputs: their setups, their writes and reads, and where they end.
+-- Words of tests: two inputs of `contents`, with their setups, their writes and reads, and where
+-- they end.
 use Rattle.std.specs.Prelude.{ℕ, ◌&&◌, ◌==◌, if◌then◌else◌, List, []}
 use Rattle.std.specs.Prelude.{◌∷◌, codes, Result, Ok, Err, None}
 use Rattle.ea_flags.specs.declared.config.TheConstants.{DEFAULT_CONFIG}

@@ -1,4 +1,5 @@
--- Whole inputs: their writes and reads, and why some are refused.
+-- Words of tests: whole inputs of `contents`, with their writes and reads, and why some are
+-- refused.
 use Rattle.std.specs.Prelude.{ℕ, List, [], ◌++◌, Option, Some, None, Result, Ok, Err, codes}
 use Rattle.ea_flags.specs.declared.fault.FlagFault.{FlagFault}
 use Rattle.ea_flags.specs.Flags.{flags}

@@ -1,4 +1,4 @@
--- The histograms of a run, from words and bytes by definitions alone.
+-- Words of tests: the histograms of a run, from words and bytes by definitions alone.
 use Rattle.std.specs.Prelude.{ℕ, List, Option, None, Result, Ok, Err, option_map}
 use Rattle.std.specs.Result.{result_ok}
 use Rattle.ea_flags.specs.declared.fault.FlagFault.{FlagFault}

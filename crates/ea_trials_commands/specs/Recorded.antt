@@ -1,4 +1,5 @@
--- Worked inputs of recorded operations: in short what the language says of them, and their turns.
+-- Words of tests: worked inputs of recorded operations, in short what the language says of them,
+-- and their turns.
 use Rattle.std.specs.Prelude.{ℕ, List, [], Option, Some, None, Result, Ok, Err}
 use Rattle.ea_flags.specs.declared.fault.FlagFault.{FlagFault}
 use Rattle.ea_flags.specs.Flags.{flags}

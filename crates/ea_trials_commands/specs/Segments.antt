@@ -1,5 +1,5 @@
--- Worked inputs for one shared region: in short what the language says of them, and the books that
--- they may have.
+-- Words of tests: worked inputs for one shared region, in short what the language says of them, and
+-- the books that they may have.
 use Rattle.std.specs.Prelude.{ℕ, List, [], ◌∷◌, Option, Some, None, Ok, Err}
 use Rattle.ea_model.specs.Trace.{listed}
 use Rattle.ea_segments.specs.declared.calls.Book.{Book}

@@ -1,4 +1,4 @@
--- Worked inputs with several types: in short what the language says of them.
+-- Words of tests: worked inputs with several types, and in short what the language says of them.
 use Rattle.std.specs.Prelude.{ℕ, List, [], Option, Some, None, Ok, Err, map, unwrap_or}
 use Rattle.ea_model.specs.Trace.{texts_of}
 use Rattle.ea_model.specs.declared.operations.Op.{Op}

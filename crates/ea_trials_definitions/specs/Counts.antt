@@ -1,4 +1,4 @@
--- The items of a sound state that count, each as a test over what occurs in a run.
+-- Words of tests: each counting item of a sound state, as a test over what occurs in a run.
 use Rattle.std.specs.Prelude.{ℕ, ◌+◌, ◌*◌, ◌%◌, Bool, true, false, ◌&&◌, ◌||◌, not, ◌==◌, nat_le}
 use Rattle.std.specs.Prelude.{List, ◌++◌}
 use Rattle.std.specs.List.{list_all, list_any, range_with_len}

@@ -1,4 +1,4 @@
--- The moments of a run, one after another.
+-- Words of tests: the moments of a run, one after another.
 use Rattle.std.specs.Prelude.{ℕ, Bool, true, false, ◌&&◌, List, [], ◌∷◌, ◌++◌, Option, None, Some}
 use Rattle.std.specs.Prelude.{flat_map, if◌then◌else◌, replicate}
 use Rattle.ea_model.specs.declared.trace.Turns.{Turns}

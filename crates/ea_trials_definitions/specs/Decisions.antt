@@ -1,4 +1,4 @@
--- Settings of the worked decisions.
+-- Words of tests: settings of the worked decisions.
 use Rattle.std.specs.Prelude.{ℕ, false}
 use Rattle.ea_model.specs.declared.settings.Settings.{Settings}
 use Rattle.ea_model.specs.declared.settings.Strategy.TheVariants.{AoffCbf}

@@ -1,4 +1,5 @@
--- Worked entries of a log: a block that finds no place, and blocks that find one.
+-- Words of tests: worked entries of a log, of a block that finds no place, and of blocks that find
+-- one.
 use Rattle.std.specs.Prelude.{ℕ, zero, suc, ◌-◌, List, [], ◌∷◌, ◌++◌, Option, codes, IfSome}
 use Rattle.std.specs.Prelude.{option_map}
 use Rattle.ea_model.specs.declared.carriers.Place.{Place}

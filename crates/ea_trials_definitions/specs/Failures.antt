@@ -1,4 +1,4 @@
--- The items that fail at the moments of a run.
+-- Words of tests: the items that fail at the moments of a run.
 use Rattle.std.specs.Prelude.{ℕ, suc, Bool, true, false, List, [], ◌∷◌, ◌++◌, ◌&&◌, Option, map}
 use Rattle.std.specs.Prelude.{option_map}
 use Rattle.ea_model.specs.declared.carriers.OwnCarrier.{OwnCarrier}

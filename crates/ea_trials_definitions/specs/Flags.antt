@@ -1,4 +1,5 @@
--- What worked words give: configurations that differ in few places from the usual one, or refusals.
+-- Words of tests: what worked words give. They give configurations that differ in few places from
+-- the usual one, or refusals.
 use Rattle.std.specs.Prelude.{ℕ, false, Result, Ok, Err}
 use Rattle.ea_model.specs.declared.settings.Strategy.{Strategy}
 use Rattle.ea_model.specs.declared.settings.Strategy.TheVariants.{AoffCbf}

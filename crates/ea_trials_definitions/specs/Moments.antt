@@ -1,4 +1,4 @@
--- Moments: the state of a run after the turns of a schedule, and what stands in it.
+-- Words of tests: moments, the state of a run after the turns of a schedule, and what stands in it.
 use Rattle.std.specs.Prelude.{ℕ, List, Option, None, Result, Ok, Err, map, option_map}
 use Rattle.std.specs.Result.{result_ok}
 use Rattle.ea_flags.specs.declared.fault.FlagFault.{FlagFault}

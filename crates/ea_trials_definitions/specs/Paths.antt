@@ -1,5 +1,5 @@
--- The places through which a name, and the content of a carrier, go in a run, by the counts of the
--- items.
+-- Words of tests: the places through which a name, and the content of a carrier, go in a run, by
+-- the counts of the items.
 use Rattle.std.specs.Prelude.{ℕ, zero, suc, Bool, true, false, ◌==◌, if◌then◌else◌, List, [], ◌∷◌}
 use Rattle.std.specs.Prelude.{Option, map, option_map}
 use Rattle.ea_sound.specs.Contents.{home_sum, slots}

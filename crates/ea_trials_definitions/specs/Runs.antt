@@ -1,4 +1,5 @@
--- The worked runs: their words and operations, each by the turns of its schedule.
+-- Words of tests: the worked runs, with their words and operations, each by the turns of its
+-- schedule.
 use Rattle.std.specs.Prelude.{ℕ, true, false, List, [], ◌++◌, Option, codes}
 use Rattle.ea_model.specs.declared.carriers.BlockAt.{BlockAt}
 use Rattle.ea_model.specs.declared.carriers.Kind.TheVariants.{Multi}

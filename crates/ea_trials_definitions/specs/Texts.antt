@@ -1,4 +1,4 @@
--- The text of a run, from words and bytes by definitions alone.
+-- Words of tests: the text of a run, from words and bytes by definitions alone.
 use Rattle.std.specs.Prelude.{ℕ, Bool, true, false, if◌then◌else◌, List, [], ◌∷◌, Option, Some}
 use Rattle.std.specs.Prelude.{None, Result, Ok, Err, bytes_eq, option_map}
 use Rattle.std.specs.Option.{option_map_or}

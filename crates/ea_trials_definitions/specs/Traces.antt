@@ -1,4 +1,4 @@
--- Worked texts: in short what the language says of them.
+-- Words of tests: worked texts, and in short what the language says of them.
 use Rattle.std.specs.Prelude.{ℕ, zero, suc, List, [], ◌++◌, Option, Some, None, Result, Ok, Err}
 use Rattle.std.specs.Prelude.{take, map}
 use Rattle.std.specs.List.{range_with_len}

@@ -1,4 +1,4 @@
--- Worked runs from a moment on, and what occurs in each.
+-- Words of tests: worked runs from a moment on, and what occurs in each.
 use Rattle.std.specs.Prelude.{ℕ, List, [], ◌∷◌, ◌++◌, Option, codes}
 use Rattle.ea_model.specs.declared.carriers.OwnCarrier.{OwnCarrier}
 use Rattle.ea_model.specs.Words.{words}

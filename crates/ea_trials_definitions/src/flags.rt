@@ -1,5 +1,6 @@
 //! The flag language on worked words: what its definition gives for them, computed from it alone.
-//! All that is expected was worked out by hand from the description of the flags in docs/FORMATS.md.
+//! All that is expected was worked out by hand from the description of the flags in
+//! docs/reference/flags.md.
 
 ghost use Rattle.std.specs.Prelude.{◌≡◌, ◌*◌, codes, true, []};
 ghost use Rattle.ea_model.specs.declared.settings.Strategy.TheVariants.{Bf, Aoff, Gf};

@@ -1,4 +1,4 @@
--- What contracts see of the ends in memory.
+-- Words of tests: ends in memory, as contracts see them.
 use Rattle.std.specs.Prelude.{ℕ, List}
 
 -- the bytes left, the most bytes that a call gives, the calls that fail, the calls made, the faults

@@ -1,5 +1,5 @@
 //! Words of flags, read or refused. All that is expected was worked out by hand from the description
-//! of the flags in docs/FORMATS.md.
+//! of the flags in docs/reference/flags.md.
 use ea_flags::FlagFault::{BadValue, NoValue, SpaceTooSmall, Unknown, Unsupported};
 use ea_flags::{DEFAULT_CONFIG, DEFAULT_SETTINGS, FlagFault, read_flags};
 use ea_model::{Config, Letter, Settings, Strategy};

@@ -1,4 +1,4 @@
--- What an input with several types is read as.
+-- What an input with several types is read as: the traces that it gives, or its refusal.
 use Rattle.std.specs.Prelude.{◌≡◌, ◌≢◌, ℕ, ◌<◌, ◌==◌, List, [], ◌∷◌, Result, Ok, Err, All, count_by}
 use Rattle.std.specs.Prelude.{length, map, slice_index_or}
 use Rattle.ea_model.specs.Trace.{plain, plain_mode, texts_of}

@@ -1,5 +1,7 @@
 -- The language of inputs with several types: which lines are operations of a type, the lines that
--- stand for each type alone, and what is refused. A line is the list of its words.
+-- stand for each type alone (`projection`), whose the lines of each section are (`parts_of`), and
+-- what is refused. A line is the list of its words.
+-- This simulator's own: the sources do not speak of it.
 use Rattle.std.specs.Prelude.{◌≡◌, ℕ, ◌+◌, ◌*◌, nat_le, nat_lt, Bool, true, false, ◌&&◌, ◌||◌, not}
 use Rattle.std.specs.Prelude.{if◌then◌else◌, List, [], ◌∷◌, ◌++◌, Option, None, Some, Result, Ok}
 use Rattle.std.specs.Prelude.{Err, All, bytes_eq, codes, is_some, length, option_and_then}

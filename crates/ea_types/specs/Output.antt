@@ -1,4 +1,5 @@
--- What an input with several types asks for, and the texts that its runs have.
+-- What an input with several types asks for, and the texts that its runs have (`IsTypesText`).
+-- This simulator's own: the sources do not speak of it.
 use Rattle.std.specs.Prelude.{◌≡◌, ℕ, ◌<◌, List, [], ◌∷◌, ◌++◌, Result, Ok, Err, codes, length, map}
 use Rattle.std.specs.Prelude.{slice_index_or}
 use Rattle.std.specs.Option.{option_map_or}

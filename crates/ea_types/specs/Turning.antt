@@ -1,5 +1,6 @@
--- Turns of schedulers that have several allocator types: in which type each is a step, and the run
--- of each type.
+-- Turns of schedulers that have several allocator types: in which type each is a step (`turn_of`),
+-- the turns of each type (`own_turns`), and its run.
+-- This simulator's own: the sources leave it undecided.
 use Rattle.std.specs.Prelude.{◌≡◌, ℕ, zero, suc, ◌<◌, nat_lt, ◌==◌, Bool, true, false}
 use Rattle.std.specs.Prelude.{List, [], ◌∷◌, ◌++◌, Option, None, Some, sum_by}
 use Rattle.std.specs.List.{range_with_len}

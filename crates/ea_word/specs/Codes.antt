@@ -1,4 +1,5 @@
--- The numbers of nodes and of owner words, and the words of queues and links.
+-- The numbers of nodes (`code_of`) and of owner words (`owner_code`), and the words of queues and
+-- links (`head_code`, `link_code`).
 use Rattle.std.specs.Prelude.{◌≡◌, ◌==◌, ℕ, ◌+◌, ◌-◌, ◌*◌, ◌/◌, ◌%◌, ◌^◌, ◌<◌, ◌≤◌}
 use Rattle.std.specs.Prelude.{Option, None, Some, if◌then◌else◌}
 use Rattle.ea_machine.specs.declared.nodes.Node.{Node}
