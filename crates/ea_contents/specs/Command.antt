@@ -9,6 +9,7 @@ use Rattle.ea_machine.specs.Setup.{setup_of}
 use Rattle.ea_sound.specs.MachineLaws.{Protocol}
 use Rattle.ea_contents.specs.Agreeing.{KeepsAgreement}
 use Rattle.ea_contents.specs.Language.{Request, is_run, request}
+use Rattle.ea_contents.specs.Model.{CompletesAll, Script}
 use Rattle.ea_contents.specs.Text.{request_text}
 
 -- the text of what is asked for: the trace is valid, and the text is that of the run in which the
@@ -18,7 +19,8 @@ pub record IsContentsText (c : Config) (asked : Request) (text : List ℕ) : Typ
   pub printed : text ≡ request_text c asked
 
 -- an input asks that a trace be run with its writes and reads, and has the text of that run; each
--- run of a trace keeps the protocol, and the words of each block the list of its name
+-- run of a trace keeps the protocol, and the words of each block the list of its name, and the turns
+-- that complete its schedule suffice
 abbrev pub contents_traces : Language
 contents_traces = record {
   Request = Request;
@@ -26,5 +28,6 @@ contents_traces = record {
   runs = is_run;
   Gives = λ c asked text. IsContentsText c asked text;
   Promises = λ c. (t : Trace) → IsValidTrace c.schedulers t
-      → Protocol (setup_of c t) × KeepsAgreement (setup_of c t);
+      → Protocol (setup_of c t) × KeepsAgreement (setup_of c t)
+      × ((script : Script) (turns : List ℕ) → CompletesAll (setup_of c t) script turns);
 }

@@ -7,6 +7,7 @@ use Rattle.ea_contents.specs.Command.{IsContentsText}
 use Rattle.ea_contents.specs.Language.{is_run}
 use Rattle.ea_contents.specs.Script.{script_of, sections_of}
 use Rattle.ea_contents.specs.Text.{ran_text}
+use Rattle.ea_contents.proofs.Completed.{all-end}
 use Rattle.ea_contents.proofs.Kept.{always-agrees}
 use Rattle.ea_contents.proofs.Printing.{contents-text}
 use Rattle.ea_contents.proofs.part.ContentsPartPart.text_of.Goals as goal
@@ -34,4 +35,5 @@ pub returns-clause-promised : goal.returns-clause-promised
 returns-clause-promised c = λ t valid. (
   always-protocol c.args.config t c.requires.config valid,
   always-agrees c.args.config t c.requires.config valid,
+  all-end c.args.config t c.requires.config valid,
 )

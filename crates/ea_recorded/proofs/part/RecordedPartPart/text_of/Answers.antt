@@ -5,6 +5,7 @@ use Rattle.ea_machine.specs.Setup.{setup_of}
 use Rattle.ea_sound.proofs.Protocols.{always-protocol}
 use Rattle.ea_recorded.specs.Order.{recorded_turns}
 use Rattle.ea_recorded.specs.Output.{IsRecordedText}
+use Rattle.ea_recorded.proofs.Operating.{each-line-ends}
 use Rattle.ea_recorded.proofs.Printing.{recorded-text}
 use Rattle.ea_recorded.proofs.part.RecordedPartPart.text_of.Goals as goal
 
@@ -25,4 +26,7 @@ returns-clause-text c =
     )
 
 pub returns-clause-promised : goal.returns-clause-promised
-returns-clause-promised c = λ t valid. always-protocol c.args.config t c.requires.config valid
+returns-clause-promised c = λ t valid. (
+  always-protocol c.args.config t c.requires.config valid,
+  each-line-ends c.args.config t c.requires.config valid,
+)
