@@ -13,6 +13,8 @@ LETTERS = "B D E H L R S T"
 COMMANDS = ("types", "super", "contents", "histogram", "recorded")
 STRATEGIES = "bf aobf aoff aoffcbf aoffcaobf ageffcaoff ageffcbf ageffcaobf gf af"
 KILOBYTES = "kilobytes"
+# Of a word that is refused.
+MOST_LETTERS = 40
 # Of each flag its least and greatest number, in what, and the values that are names.
 FLAGS_OF_ALL = {
     "+S": (1, 64, "schedulers", ""),
@@ -136,26 +138,44 @@ def near_words(flag):
     return f"a flag: +S, +MMscs, or +M with a letter of {LETTERS} u and one of {' '.join(FLAGS_OF_ONE)}"
 
 
+def word_words(flag, at, is_last):
+    """What may have been meant by a word of ./run that is no flag, by its place and whether it is the last."""
+    if flag.startswith("+") or at and not is_last:
+        return near_words(flag)
+    if at:
+        return f"a flag, or a file that is there, and not {shown(flag)}"
+    near = difflib.get_close_matches(flag, [*COMMANDS, *FLAGS_OF_ALL, *(f"+MH{it}" for it in FLAGS_OF_ONE)], 1)
+    what = f"a command ({' '.join(COMMANDS)}), a flag, or a file that is there"
+    return f"{what}; near {shown(flag)} is {near[0]}" if near else f"{what}, and not {shown(flag)}"
+
+
+def shown(word):
+    return ascii(word if len(word) <= MOST_LETTERS else f"{word[:MOST_LETTERS]}..")
+
+
 def is_unsupported_number(key, word):
     return key == "acnl" and re.fullmatch("[0-9]{1,10}", word) is not None and int(word) < 1000
 
 
-def refusal(words):
-    """The program's line for the first word that is refused, and what was expected; None where none is."""
+def refusal(words, before=None):
+    """The program's line for the first word that is refused, and what was expected; None where none is. Of the words of
+    ./run `before` is how many came before these."""
     at = 0
     while at < len(words):
         flag, found = words[at], settings_of(words[at])
         if found is None and UNSUPPORTED.match(flag) and flag not in FLAGS_OF_ALL:
             return f"word {at + 1}: unsupported", "this flag dropped: the simulator does not have what it sets"
         if found is None:
-            return f"word {at + 1}: unknown flag", near_words(flag)
+            is_last = at + 1 == len(words)
+            expected = near_words(flag) if before is None else word_words(flag, before + at, is_last)
+            return f"word {at + 1}: unknown flag", expected
         if at + 1 == len(words):
             return f"word {at + 1}: value missing", values_words(flag)
         value = words[at + 1]
         if value == UNSUPPORTED_VALUES.get(found[0]) or is_unsupported_number(found[0], value):
             return f"word {at + 1}: unsupported", values_words(flag)
         if not is_value(flag, value):
-            return f"word {at + 2}: bad value", values_words(flag)
+            return f"word {at + 2}: bad value", f"{values_words(flag)}, and not {shown(value)}"
         at += 2
     return None
 
@@ -304,11 +324,12 @@ def command_and_flags(words):
     return (words[0], words[1:]) if words and words[0] in COMMANDS else ("", list(words))
 
 
-def explained(said, words, data):
-    """What was expected where the program said this of these words and of this input, None where that isn't known."""
+def explained(said, words, data, is_run=False):
+    """What was expected where the program said this of these words, which may be those of ./run, and of this input; None
+    where that isn't known."""
     said = said.strip().removeprefix("erts_alloc_run: ")
     command, flags = command_and_flags(words)
-    found = refusal(flags)
+    found = refusal(flags, len(words) - len(flags) if is_run else None)
     match = re.fullmatch(r"(?:line ([0-9]+): )?(.*)", said)
     if said.startswith("word "):
         return found[1] if found and found[0] == said else None
@@ -332,7 +353,7 @@ def main(words):
     if len(words) < 2 or words[1] != "--":
         print("expected.py: due are LINE -- WORDS", file=sys.stderr)
         return 2
-    found = explained(words[0], words[2:], data_of_input())
+    found = explained(words[0], words[2:], data_of_input(), is_run=True)
     if found:
         print(f"run: expected: {found}")
     return 0

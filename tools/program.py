@@ -1,10 +1,9 @@
 """The program, for the tools that run it: where it is, runs that end when the tool does, and its inputs."""
 import contextlib
-import glob
 import os
+import re
 import signal
 import subprocess
-import tempfile
 import threading
 
 from files import reason_of
@@ -12,6 +11,7 @@ from refused import Refused
 
 TOP = os.path.dirname(os.path.dirname(os.path.realpath(__file__)))
 NOT_BUILT = 70
+MOST_SCHEDULERS = 64
 SMALLEST_TRACE = b"type H\nscheduler 1\nschedule\nend\n"
 # The program's first words for an input of several allocator types, and for one of one shared region, each of which
 # begins the first line of that, too; for one of operations in their recorded order; for the histograms of a trace; and
@@ -38,6 +38,14 @@ def command_of(lines):
         return [OF_SEVERAL]
     is_recorded = first == [b"type"] and second and (second[0].isdigit() or second == [b"end"])
     return [OF_RECORDED] if is_recorded else []
+
+
+def with_schedulers(flags, data):
+    """These flags; for recorded operations, where no +S is among them, with as many schedulers as these have."""
+    if command_of(data.split(b"\n", 100)[:100]) != [OF_RECORDED] or "+S" in flags[::2] or len(flags) % 2:
+        return flags
+    numbers = {*map(int, re.findall(rb"^[^\S\n]*([0-9]{1,2})[^\S\n]", data, re.MULTILINE))}
+    return [*flags, "+S", str(max((it for it in numbers if 0 < it <= MOST_SCHEDULERS), default=1))]
 
 
 # Runs
@@ -90,27 +98,25 @@ def end_runs():
 # Where it is
 
 
-def unproved_program(tell):
-    """The path of a program that ./run compiles without a proof, in a folder that is removed at the end."""
-    folder = tempfile.TemporaryDirectory(prefix="unproved-")
-    path = f"{folder.name}/erts_alloc_run"
-    ran = subprocess.run([f"{TOP}/run", "--unproved", "--keep", path], stdin=subprocess.DEVNULL, check=False)
-    if ran.returncode:
-        raise Refused(f"{TOP}/run: the program could not be compiled")
-    unproved_program.folder = folder
-    tell("nothing is proved of the program that is run")
-    return path
+def kept_program():
+    """The path of the program that ./run runs: a proved one where there is one, else one that it compiles, which it
+    says on standard error."""
+    words = [f"{TOP}/run", "--path"]
+    with subprocess.Popen(words, stdin=subprocess.DEVNULL, stdout=subprocess.PIPE) as child:
+        try:
+            path, _ = child.communicate()
+        except BaseException:
+            # By this signal it ends what it has started, too.
+            child.terminate()
+            raise
+    if child.returncode:
+        raise Refused(f"{TOP}/run: the program could not be built")
+    return os.fsdecode(path.removesuffix(b"\n"))
 
 
-def find_program(given, is_unproved, tell):
+def find_program(given):
     """The path of the program, which has run the smallest trace."""
-    if is_unproved:
-        given = unproved_program(tell)
-    path = os.path.abspath(given) if given else f"{TOP}/run"
-    kept = f"{glob.escape(TOP)}/out/erts_alloc_run-*"
-    if not given and not glob.glob(kept):
-        tell("./run is asked for the program, and may have to prove and build it for half an hour; --unproved takes"
-             " a minute or two, and --program PATH takes one that is there")
+    path = os.path.abspath(given) if given else kept_program()
     try:
         ran = subprocess.run([path], input=SMALLEST_TRACE, stdout=subprocess.PIPE, check=False)
     except OSError as error:
@@ -119,8 +125,7 @@ def find_program(given, is_unproved, tell):
         raise Refused(f"{path}: the program could not be proved or built")
     if ran.returncode or not ran.stdout.startswith(b"scheduler 1\ntotal "):
         raise Refused(f"{given or path}: this is not the simulator: it ends with status {ran.returncode}")
-    found = [] if given else glob.glob(kept)
-    return found[0] if len(found) == 1 else path
+    return path
 
 
 def told_of(said):

@@ -4,11 +4,12 @@ import os
 import stat
 import time
 from collections import Counter
+from dataclasses import replace
 
 from columns import DECIMALS
 from files import reason_of
 from flags import Settings
-from program import OF_RECORDED, Ended, command_of, is_said, run, told_of
+from program import OF_RECORDED, Ended, command_of, is_said, run, told_of, with_schedulers
 from replay import UNITS_EVER, replay
 from texts import (
     BYTES_OF_A_UNIT, NUMBERS_OF_AN_INSTANCE, carrier_of, is_placed, owner_of, read_texts, read_traces,
@@ -246,6 +247,7 @@ def rows_of_run(program, flags, file, options):
     data, said = read_input(file)
     if data is None:
         return [{**empty_row(flags, file), "status": None, "said": said}]
+    flags = replace(flags, words=with_schedulers(flags.words, data))
     if not options.marks:
         return rows_of_input(program, flags, empty_row(flags, file), data, options.seconds)
     rows = []

@@ -25,7 +25,7 @@ TOOL = f"{TOP}/tools/compare"
 EXAMPLES = f"{TOP}/examples"
 PROGRAM = []
 STRATEGIES = "bf aobf aoff aoffcbf aoffcaobf ageffcaoff ageffcbf ageffcaobf gf af"
-NO_STRATEGY = f"compare: expected: +MHas takes {STRATEGIES}\n"
+NO_STRATEGY = f"compare: expected: +MHas takes {STRATEGIES}, and not 'ff'\n"
 NOT_SECONDS = "list,trace,status,carriers_end,carriers_most,units_end,units_most,failed,moved,said"
 KEPT_APART = ["--each", "+MHacul 0"]
 # With migration and one scheduler an allocation that finds no room looks at each of its numbers before it creates a
@@ -407,6 +407,20 @@ class Compare(unittest.TestCase):
         lines = ["type H", "1 alloc 1 300000", "1 free 1", "1 alloc 2 100", "end", ""]
         [row] = self.recorded("\n".join(lines), *KEPT_APART, "--each", "+MHsbct 1")
         self.assertRow(row, carriers_most=1, units_most=74 * 512, units_end=32768)
+
+    def test_recorded_operations_have_as_many_schedulers_as_they_need(self):
+        """With two schedulers each has 128 pages, so that a block of 147 has no place, up to the first mark, too."""
+        text = "type H\n1 alloc 1 600000\n# mark one\n2 alloc 2 100\nend\n"
+        rows = self.recorded(text, "--marks", "--each", "+MMscs 1")
+        self.assertEqual([(it["flags"], it["failed"]) for it in rows], [("+MMscs 1 +S 2", 1)] * 2)
+        [row] = self.recorded(text, "--each", "+MMscs 1", "--each", "+S 64")
+        self.assertEqual((row["flags"], row["failed"]), ("+MMscs 1 +S 64", 1))
+        name = self.file("bad.input", "type H\n1 idle\n65 idle\nend\n")
+        status, _, said = self.compare(name)
+        wanted = f"compare: {name}: line 3: bad scheduler\ncompare: expected: +S is 1, so schedulers are 1 to 1\n"
+        self.assertEqual((status, said), (1, wanted))
+        status, _, said = self.compare(self.file("b.input", "type H\n2 idle\nend\n"), "--all", "+MHas")
+        self.assertEqual((status, said.split("\n")[0]), (1, "compare: the flags of all lists: +MHas: value missing"))
 
     def recorded(self, text, *words):
         probe = subprocess.run([program(), "recorded"], input="type H\nend\n", capture_output=True, text=True, check=False)

@@ -71,15 +71,32 @@ class Words(unittest.TestCase):
 
     def test_what_was_expected(self):
         for words, wanted in (
-            ("+MHas ff", TAKES),
+            ("+MHas ff", f"{TAKES}, and not 'ff'"),
             ("+MHas", TAKES),
             ("+MHasbf", "a value as a word of its own: +MHas bf"),
             ("+MHacull 1", "a flag; near it are +MHacul +MHacnl +MHacfml"),
-            ("+MMscs 513", "+MMscs takes 1 to 512 megabytes"),
-            ("+MHacul 101", "+MHacul takes 0 to 100 percent, or de"),
+            ("+MMscs 513", "+MMscs takes 1 to 512 megabytes, and not '513'"),
+            (f"+MMscs {'9' * 50}", f"+MMscs takes 1 to 512 megabytes, and not '{'9' * 40}..'"),
+            ("+MHacul 101", "+MHacul takes 0 to 100 percent, or de, and not '101'"),
             ("+MHt false", "+MHt takes true"),
         ):
             self.assertEqual(refusal(words.split())[1], wanted)
+
+    def test_words_of_run_that_are_no_flags(self):
+        """A command may come first, and a file last."""
+        said, any_word = "word 1: unknown flag", "a command (types super contents histogram recorded), a flag, or a file that is there"
+        for words, wanted in (
+            ("record +S 2", f"{any_word}; near 'record' is recorded"),
+            ("MHas bf", f"{any_word}; near 'MHas' is +MHas"),
+            ("xyz", f"{any_word}, and not 'xyz'"),
+            ("types xyz", "a flag, or a file that is there, and not 'xyz'"),
+            ("types MHas bf", "a flag; near it are +MHas +MHasbcst"),
+            ("+MHacull 1", "a flag; near it are +MHacul +MHacnl +MHacfml"),
+        ):
+            self.assertEqual(explained(said, words.split(), None, is_run=True), wanted)
+        wanted = "a flag, or a file that is there, and not 'xyz'"
+        self.assertEqual(explained("word 3: unknown flag", ["+S", "2", "xyz"], None, is_run=True), wanted)
+        self.assertNotIn("file", explained("word 3: unknown flag", ["+S", "2", "xyz"], None))
 
 
 class Lines(unittest.TestCase):

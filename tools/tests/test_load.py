@@ -35,7 +35,7 @@ FIRST = "node-load 1\n"
 SMALL = FIRST + "type B\nblocks 64 64 1\nblocks 128 128 2\nblocks 256 256 5\n"
 # The SHA-256 of what one machine made of SMALL with the words of test_same_bytes, so that a change of bytes is seen. It
 # says nothing of what is right.
-MADE_ONCE = "db9093bd9594c73fd114ba475f8a2fed69bf62c6bfb5e92c58e77531a70e2a0f"
+MADE_ONCE = "779aa619b7ba79b6d3951b4f29cad007c62c945f5a372ddf05520688096c116e"
 
 
 def module_of(path):
@@ -812,6 +812,9 @@ class LiveNode(Case):
         for word in "erl", "escript", "epmd":
             if not shutil.which(word):
                 self.skipTest(f"no {word} (Debian: erlang-base and erlang-tools), so no node was asked")
+        has_tools = "halt(case code:which(instrument) of non_existing -> 1; _ -> 0 end)."
+        if subprocess.run(["erl", "-noinput", "-eval", has_tools], check=False).returncode:
+            self.skipTest("no application tools (Debian: erlang-tools), so no node was asked")
         with socket.socket() as free:
             free.bind(("127.0.0.1", 0))
             port = str(free.getsockname()[1])

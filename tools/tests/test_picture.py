@@ -539,7 +539,7 @@ class Types(Case):
         self.refused(f"{trace}, type B: there are moments 0 to 1, and no 2", *words, "--at", "2")
         self.refused(f"{trace}: there is no type E", *words, "--type", "E")
         self.refused("the words after --: word 3: bad value", *words, "--", "types", "+MHramv", "no",
-                     expected="+MHramv takes true false")
+                     expected="+MHramv takes true false, and not 'no'")
         flags = self.write("a.flags", "types\n+MHacul\n0\n+MHasbf\n1\n")
         self.refused(f"{flags}: line 4: unknown flag", *words, "--flags", flags,
                      expected="a value as a word of its own: +MHas bf")
@@ -702,6 +702,11 @@ class Recorded(Case):
         # Block 1 is queued by its free, entry 5, and released where the next operation of scheduler 1 begins, entry 6.
         self.assertEqual([it[4:] for it in blocks_of(data) if it[0] == 1], [(1, 5, 6)])
 
+    def test_without_a_count_it_is_that_of_the_schedulers_that_it_has(self):
+        trace = self.write("a.input", "\n".join(["type H", *self.LINES, "end", ""]))
+        for words in [], ["--", "recorded", "+MHacul", "0"]:
+            self.assertEqual(self.data("--trace", trace, *words)["schedulers"], 2)
+
     def test_of_more_schedulers_than_have_operations(self):
         trace = self.write("a.input", "type H\n1 alloc 1 100\nend\n")
         data = self.data("--trace", trace, "--", "+S", "4")
@@ -722,7 +727,7 @@ class Refusals(Case):
     def test_flags(self):
         words = "--trace", self.trace("idle"), "--output", self.path("a.html")
         self.refused("the words after --: word 2: bad value", *words, "--", "+MHramv", "no",
-                     expected="+MHramv takes true false")
+                     expected="+MHramv takes true false, and not 'no'")
         flags = self.write("a.flags", "+MHacul\n0\n+MHasbf\n1\n")
         self.refused(f"{flags}: line 3: unknown flag", *words, "--flags", flags,
                      expected="a value as a word of its own: +MHas bf")

@@ -51,6 +51,11 @@ def operations(text):
     return [it for it in text.splitlines() if not it.startswith("#")]
 
 
+def text_of(path):
+    with open(path, encoding="utf-8") as source:
+        return source.read()
+
+
 class Case(unittest.TestCase):
     def setUp(self):
         self.room = tempfile.mkdtemp(prefix="test-record-")
@@ -162,6 +167,15 @@ class Events(Case):
         lines = self.made("alloc B 1 a0 100", "alloc B 2 c0 50", "free B 2 a0", more=("--as", "trace"))
         self.assertEqual(lines, ["type B", "scheduler 1", "alloc 1 100", "give 1 2", "scheduler 2", "alloc 2 50",
                                  "take 1 1000", "free 1", "schedule", "1*1 2*1 1*2 2*3", "end"])
+
+    def test_the_stored_recording(self):
+        """examples/shop.record, of a node whose four schedulers all allocate, gives the input and the flags there."""
+        shop = f"{TOP}/examples/shop"
+        text = self.load("--recorded", f"{shop}.record", "--node-flags", f"{self.room}/a.flags")
+        self.assertEqual(text, text_of(f"{shop}.trace"))
+        self.assertEqual(["recorded", *text_of(f"{self.room}/a.flags").split()], text_of(f"{shop}.flags").split())
+        busy = [sum(it.startswith(f"{me} alloc ") for it in operations(text)) for me in range(1, 5)]
+        self.assertGreater(min(busy), 100)
 
     def test_refusals(self):
         cases = {
