@@ -145,6 +145,17 @@ class Edits(unittest.TestCase):
                 self.assertEqual((status, told.split("\n")[-2]), (1, "0 passed, 1 failed"))
                 self.assertNotIn(edit, self.read("bench/kinds.txt"))
 
+    def test_a_check_compares_the_kinds_with_the_gates_edits(self):
+        self.write("bench/kinds.txt", KINDS.replace("number_after", "key_after"))
+        status, told = self.run_edits("--check")
+        self.assertEqual(status, 1)
+        self.assertEqual([it for it in told.split("\n") if it.startswith("bench/kinds.txt")], [
+            "bench/kinds.txt has ea_keytree/key_after_the_key_for_the_key, which is no edit of the gate",
+            "bench/kinds.txt has no line for ea_keytree/number_after_the_key_for_the_key",
+        ])
+        self.write("bench/kinds.txt", KINDS)
+        self.assertNotIn("bench/kinds.txt", self.run_edits("--check")[1])
+
     def test_a_log_that_is_not_there_is_named(self):
         self.assertEqual(self.run_edits("--kinds", f"{self.room}/log"), (2, ""))
 
