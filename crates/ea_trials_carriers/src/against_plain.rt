@@ -1,5 +1,5 @@
 //! A multiblock carrier beside the plain list of its blocks: both do the same generated operations,
-//! and are compared after each. The list by itself is tried by hand.
+//! and are compared after each.
 ghost use Rattle.std.specs.Prelude.{◌≡◌, ◌%◌, ◌<◌, ◌≤◌};
 ghost use Rattle.ea_model.specs.declared.units.TheConstants.{MIN_BLOCK};
 
@@ -26,7 +26,7 @@ const UNITS: u32 = 512;
 const OPERATIONS: u32 = 3000;
 
 // Numbers that follow from a first one.
-#[derive(Debug, Clone, Copy)]
+#[derive(Clone, Copy)]
 struct Numbers {
     state: u64,
 }
@@ -191,7 +191,7 @@ impl Sides {
     {
         let wanted = chosen(inner, need, self.plain.gaps(alloc)?.as_slice());
         let got = self.carrier.choose(inner, need);
-        assert_eq!(rt; got, wanted, "{inner:?}, {need} units");
+        assert!(rt; got == wanted);
         let Some(gap) = got else {
             return Ok(());
         };
@@ -202,12 +202,7 @@ impl Sides {
             Some(rest) if rest < 6 => gap.size,
             _ => need,
         };
-        assert_eq!(rt;
-            placed,
-            Placed { size, largest },
-            "{need} units at {}",
-            gap.offset
-        );
+        assert!(rt; placed == Placed { size, largest });
         Ok(())
     }
 
@@ -229,7 +224,7 @@ impl Sides {
             after: gap_from(gaps.as_slice(), offset.wrapping_add(size)),
             largest: self.largest(alloc)?,
         };
-        assert_eq!(rt; freed, wanted, "{offset}");
+        assert!(rt; freed == wanted);
         Ok(())
     }
 
@@ -261,7 +256,7 @@ impl Sides {
             None
         };
         let Some(units) = wanted_units(size, after, need) else {
-            assert_eq!(rt; got, None, "{offset} to {need}");
+            assert!(rt; got == None);
             return Ok(());
         };
         self.plain.refit(
@@ -279,7 +274,7 @@ impl Sides {
                 size: units,
                 largest: self.largest(alloc)?,
             };
-            assert_eq!(rt; got, Some(wanted), "{offset} to {need}");
+            assert!(rt; got == Some(wanted));
         }
         Ok(())
     }
@@ -289,23 +284,15 @@ impl Sides {
         let BlockAt { name, offset, size } = block;
         let stop = offset.wrapping_add(size);
         let (before, after) = (gap_up_to(gaps, offset), gap_from(gaps, stop));
-        assert_eq!(rt;
-            self.carrier.block_at(offset),
-            Some(Block { name, size }),
-            "{offset}"
-        );
-        assert_eq!(rt; self.carrier.gap_behind(offset), after, "{offset}");
-        assert_eq!(rt;
-            block_tag(&self.carrier, offset),
-            Some(header(offset, size, false, before)),
-            "{offset}"
-        );
+        assert!(rt; self.carrier.block_at(offset) == Some(Block { name, size }));
+        assert!(rt; self.carrier.gap_behind(offset) == after);
+        assert!(rt; block_tag(&self.carrier, offset) == Some(header(offset, size, false, before)));
         let gap = Gap {
             offset: stop,
             size: after,
         };
         let wanted = if after > 0 { Some(tags_of(gap)) } else { None };
-        assert_eq!(rt; tags_behind(&self.carrier, offset), wanted, "{offset}");
+        assert!(rt; tags_behind(&self.carrier, offset) == wanted);
     }
 
     // Compares all that a carrier says of its blocks and gaps.
@@ -320,14 +307,13 @@ impl Sides {
             count = count.wrapping_add(1);
         }
         let lowest = gaps.first().copied();
-        assert_eq!(rt;
-            lowest_tags(&self.carrier),
-            lowest.map(|gap: Gap| (gap.offset, tags_of(gap)))
+        assert!(rt;
+            lowest_tags(&self.carrier) == lowest.map(|gap: Gap| (gap.offset, tags_of(gap)))
         );
-        assert_eq!(rt; self.carrier.largest(), greatest(gaps));
-        assert_eq!(rt; self.carrier.allocated(), allocated);
-        assert_eq!(rt; self.carrier.len(), count);
-        assert_eq!(rt; self.carrier.is_empty(), count == 0);
+        assert!(rt; self.carrier.largest() == greatest(gaps));
+        assert!(rt; self.carrier.allocated() == allocated);
+        assert!(rt; self.carrier.len() == count);
+        assert!(rt; self.carrier.is_empty() == (count == 0));
         Ok(())
     }
 
@@ -340,11 +326,7 @@ impl Sides {
     ) -> Result<(), OutOfMemory> {
         let gaps = self.plain.gaps(alloc)?;
         for inner in [Inner::Bf, Inner::Aobf, Inner::Aoff] {
-            assert_eq!(rt;
-                self.carrier.choose(inner, need),
-                chosen(inner, need, gaps.as_slice()),
-                "{inner:?}, {need} units"
-            );
+            assert!(rt; self.carrier.choose(inner, need) == chosen(inner, need, gaps.as_slice()));
         }
         Ok(())
     }
@@ -360,7 +342,7 @@ impl Sides {
                 });
             }
         }
-        assert_eq!(rt; self.carrier.block_at(offset), wanted, "{offset}");
+        assert!(rt; self.carrier.block_at(offset) == wanted);
     }
 
     // One operation. Blocks of the same name lie side by side, and of the name 0 too.
@@ -401,43 +383,5 @@ fn a_carrier_does_as_the_list_of_its_blocks(rt: HostRuntime) -> Result<(), Fail>
             sides.look(&rt, numbers.below(UNITS + 8));
         }
     }
-    Ok(())
-}
-
-fn block((name, offset, size): (u32, u32, u32)) -> BlockAt {
-    BlockAt { name, offset, size }
-}
-
-#[test]
-fn a_plain_carrier_keeps_its_blocks_in_order(rt: HostRuntime) -> Result<(), Fail> {
-    let alloc = rt.alloc();
-    let plan = CarrierPlan {
-        number: 7,
-        base: 3,
-        pages: 1,
-        birth: 1,
-        single: false,
-    };
-    let mut carrier = PlainCarrier::new(alloc, 1, Kind::Multi, plan);
-    assert_eq!(rt;
-        (carrier.number(), carrier.base(), carrier.birth()),
-        (7, 3, 1)
-    );
-    assert!(rt; carrier.is_empty_multi());
-    for (offset, need) in [(8, 20), (28, 10), (38, 470)] {
-        carrier.place(alloc, offset, need, offset)?;
-    }
-    carrier.release(alloc, 28)?;
-
-    // A rest of 4 units stays in the block at 28.
-    carrier.place(alloc, 28, 6, 28)?;
-    let blocks = [(8, 8, 20), (28, 28, 10), (38, 38, 474)].map(block);
-    assert_eq!(rt; carrier.blocks(), blocks.as_slice());
-    assert!(rt; carrier.gaps(alloc)?.len() == 0 && !carrier.is_empty_multi());
-
-    carrier.refit(alloc, block((5, 8, 14)))?;
-    let blocks = [(5, 8, 14), (28, 28, 10), (38, 38, 474)].map(block);
-    assert_eq!(rt; carrier.blocks(), blocks.as_slice());
-    assert_eq!(rt; carrier.gaps(alloc)?.len(), 1);
     Ok(())
 }

@@ -1,23 +1,13 @@
-//! Carriers, their units and pages, and what is decided about a block of one: steps with known
-//! answers, and a multiblock carrier beside the plain list of its blocks, which is slow and has
-//! nothing beside the list.
+//! A multiblock carrier beside the plain list of its blocks, which is slow and has nothing beside
+//! the list; and the words of headers. All else about carriers and their pages is shown by cases of
+//! the program.
 #![tactic(auto)]
 
 #[cfg(test)]
 mod against_plain;
 #[cfg(test)]
 mod carrier_tags;
-#[cfg(test)]
-mod mbc;
 pub mod plain;
-#[cfg(test)]
-mod resize;
-#[cfg(test)]
-mod sbc;
-#[cfg(test)]
-mod space;
-#[cfg(test)]
-mod stats;
 #[cfg(test)]
 mod tags;
 

@@ -1,7 +1,8 @@
 //! The lines of a text of cases.
+use std::alloc::AllocError;
 
 /// What a line says.
-#[derive(Debug, Clone, Copy)]
+#[derive(Copy)]
 pub enum Line<'a> {
     /// Nothing: it is empty, or a comment.
     Nothing,
@@ -23,6 +24,12 @@ pub enum Line<'a> {
     Byte(u8),
     /// It is whole.
     Run,
+}
+
+impl Clone for Line<'_> {
+    fn clone(&self) -> Result<Self, AllocError> {
+        Ok(*self)
+    }
 }
 
 /// What a line says; None if it is no line of a case.

@@ -39,7 +39,7 @@ const OPERATIONS: u32 = 48;
 const PAGES: u32 = 40;
 
 // Numbers that follow from a first one.
-#[derive(Debug, Clone, Copy)]
+#[derive(Clone, Copy)]
 struct Numbers {
     state: u64,
 }
@@ -179,14 +179,9 @@ impl Sides {
         requires even { need % 2 ≡ 0 }
         requires least { MIN_BLOCK ≤ need }
     {
-        let strategy = self.settings.strategy;
         let wanted = choice(alloc, self.settings, need, &self.carriers)?;
         let got = self.instance.try_alloc(need, name);
-        assert_eq!(rt;
-            got.map(spot_of_place),
-            wanted.map(spot_of),
-            "{strategy:?}, {need} units"
-        );
+        assert!(rt; got.map(spot_of_place) == wanted.map(spot_of));
         let Some(place) = got else {
             return Ok(false);
         };
@@ -206,7 +201,7 @@ impl Sides {
         let index = position(place.carrier, &self.carriers).expect(rt, "the carrier is there");
         self.carriers[index].place(alloc, place.offset, need, name)?;
         let size = size_at(place.offset, self.carriers[index].blocks());
-        assert_eq!(rt; Some(place.size), size);
+        assert!(rt; Some(place.size) == size);
         push_spot(&mut self.live, spot_of_place(place))
     }
 
@@ -254,7 +249,7 @@ impl Sides {
         assert!(rt; self.instance.block_at(spot).is_some());
         let vacant = self.instance.release(spot);
         self.carriers[index].release(alloc, spot.offset)?;
-        assert_eq!(rt; vacant, self.carriers[index].is_empty_multi());
+        assert!(rt; vacant == self.carriers[index].is_empty_multi());
         if vacant {
             self.instance.dismiss(spot.carrier);
             assert!(rt; self.instance.owns(spot.carrier));
@@ -288,13 +283,13 @@ impl Sides {
     // Compares the lines of all carriers.
     fn compare(&self, rt: &impl Abort, alloc: Global) -> Result<(), NoChoice> {
         let figures = self.instance.multi_figures();
-        assert_eq!(rt; figures.carriers, self.carriers.len() as u64);
+        assert!(rt; figures.carriers == self.carriers.len() as u64);
         for carrier in &self.carriers {
             let line = self.instance.carrier_line(carrier.number());
             let line = line.expect(rt, "the carrier is there");
-            assert_eq!(rt; line.base, carrier.base());
-            assert_eq!(rt; line.allocated, units_of(rt, carrier.blocks()));
-            assert_eq!(rt; line.largest, greatest(carrier.gaps(alloc)?.as_slice()));
+            assert!(rt; line.base == carrier.base());
+            assert!(rt; line.allocated == units_of(rt, carrier.blocks()));
+            assert!(rt; line.largest == greatest(carrier.gaps(alloc)?.as_slice()));
         }
         Ok(())
     }

@@ -11,18 +11,18 @@ type Step = (u32, u32, u32, Option<u32>, u32);
 /// Takes the steps in a new tree.
 fn compare(rt: &impl Abort, alloc: Global, positions: u32, steps: &[Step]) -> Result<(), Fail> {
     let mut tree = PosTree::new(alloc, positions)?;
-    assert_eq!(rt; tree.first_at_least(1), None);
-    assert_eq!(rt; tree.largest(), 0);
+    assert!(rt; tree.first_at_least(1) == None);
+    assert!(rt; tree.largest() == 0);
     if positions > 0 {
-        assert_eq!(rt; tree.value(positions - 1), 0);
+        assert!(rt; tree.value(positions - 1) == 0);
     }
     for (position, value, wanted, first, largest) in steps {
         assert!(rt; *position < positions);
         assert!(rt; *wanted > 0);
         tree.set(*position, *value);
-        assert_eq!(rt; tree.value(*position), *value);
-        assert_eq!(rt; tree.first_at_least(*wanted), *first);
-        assert_eq!(rt; tree.largest(), *largest);
+        assert!(rt; tree.value(*position) == *value);
+        assert!(rt; tree.first_at_least(*wanted) == *first);
+        assert!(rt; tree.largest() == *largest);
     }
     Ok(())
 }

@@ -1,5 +1,4 @@
 //! What blocks contain.
 
 pub mod inputs;
-mod memory;
 pub mod worked;

@@ -1,4 +1,3 @@
 //! Inputs of recorded operations.
 
-mod reader;
 pub mod worked;

@@ -1,4 +1,3 @@
 //! Inputs with several types.
 
-mod reader;
 pub mod worked;

@@ -20,12 +20,12 @@ fn ten_thousand_words_are_read_to_the_last(rt: HostRuntime) -> Result<(), Fail> 
     }
     words.push(String::from_str(rt.alloc(), "+MHacul")?)?;
     words.push(String::from_str(rt.alloc(), "30")?)?;
-    assert_eq!(rt; limit(&rt, &words), Ok(30));
+    assert!(rt; limit(&rt, &words) == Ok(30));
 
     words.push(String::from_str(rt.alloc(), "+MHacul")?)?;
-    assert_eq!(rt; limit(&rt, &words), Err(NoValue { word: 10_001 }));
+    assert!(rt; limit(&rt, &words) == Err(NoValue { word: 10_001 }));
     words.push(String::from_str(rt.alloc(), "101")?)?;
-    assert_eq!(rt; limit(&rt, &words), Err(BadValue { word: 10_002 }));
+    assert!(rt; limit(&rt, &words) == Err(BadValue { word: 10_002 }));
     Ok(())
 }
 
@@ -44,11 +44,7 @@ fn a_word_of_a_megabyte_is_refused_as_any_other(rt: HostRuntime) -> Result<(), F
             words.push(String::from_str(rt.alloc(), flag)?)?;
         }
         words.push(part.repeat(rt.alloc(), 1 << 18)?)?;
-        assert_eq!(rt;
-            limit(&rt, &words),
-            Err(fault),
-            "of {flag} and {part}, repeated"
-        );
+        assert!(rt; limit(&rt, &words) == Err(fault));
     }
     Ok(())
 }

@@ -1,16 +1,12 @@
-//! Tests of what is read, generated and printed where a case would be too long, and of the units and
-//! words below it, with values that were worked out by hand.
+//! Tests of what is read and printed where a case would be too long, and worked texts of generated
+//! traces. All of it is under `cfg(test)`, and so is proved once.
 #![tactic(auto)]
 
 #[cfg(test)]
 mod flags;
 #[cfg(test)]
-mod generated;
+pub mod generated;
 #[cfg(test)]
 mod report;
 #[cfg(test)]
 mod traces;
-#[cfg(test)]
-mod units;
-#[cfg(test)]
-mod words;

@@ -1,4 +1,4 @@
-//! Inputs at the limits of the language, and large ones. Shorter ones are cases.
+//! Large inputs. Shorter ones are cases, and so are those at the limits of the language.
 use ea_trace::{TraceFault, read_trace};
 use std::alloc::Global;
 use std::test::Fail;
@@ -16,68 +16,6 @@ fn repeated(
     input.extend_from_slice(&all)?;
     input.extend_from_slice(last)?;
     Ok(input)
-}
-
-#[test]
-fn limits_are_exact(rt: HostRuntime) -> Result<(), Fail> {
-    let cases: [(&[u8], &[u8], usize, &[u8], Option<TraceFault>); 7] = [
-        (
-            b"type H\nscheduler 1\n",
-            b"idle\n",
-            1_048_576,
-            b"threads\nend\n",
-            None,
-        ),
-        (
-            b"type H\nscheduler 1\n",
-            b"idle\n",
-            1_048_577,
-            b"threads\nend\n",
-            Some(TraceFault::TooMany { line: 1_048_579 }),
-        ),
-        (
-            b"type H\nscheduler 1\nalloc 1 1\ngive 1 1\n",
-            b"take 1 10000000\n",
-            10,
-            b"schedule\nend\n",
-            None,
-        ),
-        (
-            b"type H\nscheduler 1\nalloc 1 1\ngive 1 1\n",
-            b"take 1 10000000\n",
-            10,
-            b"take 1 1\nschedule\nend\n",
-            Some(TraceFault::TooMany { line: 15 }),
-        ),
-        (
-            b"type H\nscheduler 1\nschedule\n",
-            b"1*1000000\n",
-            100,
-            b"end\n",
-            None,
-        ),
-        (
-            b"type H\nscheduler 1\nschedule\n",
-            b"1*1000000 ",
-            100,
-            b"1\nend\n",
-            Some(TraceFault::TooMany { line: 4 }),
-        ),
-        (
-            b"type H\nscheduler 1\n",
-            b"alloc 1048576 1\n",
-            1,
-            b"threads\nend\n",
-            None,
-        ),
-    ];
-    for (first, line, times, last, fault) in cases {
-        let input = repeated(rt.alloc(), first, line, times, last)?;
-        assert!(rt; input.len() < 1 << 24);
-        let read = read_trace(rt.alloc(), &input, 1).err();
-        assert_eq!(rt; read, fault, "with {times} of {line:?}");
-    }
-    Ok(())
 }
 
 #[test]
@@ -111,7 +49,7 @@ fn large_inputs_are_read(rt: HostRuntime) -> Result<(), Fail> {
         let input = repeated(rt.alloc(), first, line, times, last)?;
         assert!(rt; input.len() <= 1 << 24);
         let read = read_trace(rt.alloc(), &input, 1).err();
-        assert_eq!(rt; read, fault, "with {times} of {line:?}");
+        assert!(rt; read == fault);
     }
     Ok(())
 }
