@@ -1,0 +1,6 @@
+pub mod Changes
+pub mod Groups
+pub mod Rows
+pub mod Steps
+pub mod Text
+pub mod Touched

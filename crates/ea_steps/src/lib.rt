@@ -1,0 +1,3 @@
+//! The steps of a run: each atomic step of the run of a trace with a schedule, with what it did;
+//! and the command that prints them.
+#![tactic(auto)]
