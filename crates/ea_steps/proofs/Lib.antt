@@ -6,3 +6,9 @@ pub mod SortedItems
 pub mod FoundBlocks
 pub mod WorkedNames
 pub mod TouchedNames
+-- Which carriers come, go and shrink by a step.
+pub mod CarrierWeights
+pub mod KeptCarriers
+pub mod MadeCarriers
+pub mod StepCarriers
+pub mod CarrierSums
