@@ -6,6 +6,8 @@ pub mod SortedItems
 pub mod FoundBlocks
 pub mod WorkedNames
 pub mod TouchedNames
+pub mod TouchedBlocks
+pub mod ReleasedBlocks
 -- Which carriers come, go and shrink by a step.
 pub mod CarrierWeights
 pub mod KeptCarriers

@@ -1,4 +1,5 @@
 pub mod Changes
+pub mod Found
 pub mod Fronts
 pub mod Groups
 pub mod Rows
