@@ -1,3 +1,4 @@
+pub mod StepLists
 pub mod Fronting
 pub mod Prefixed
 pub mod Rising

@@ -1,11 +1,12 @@
 -- What a step did: which blocks it released, which carriers went, were made, or have fewer pages,
 -- and what it added to its scheduler's log.
 -- This simulator's own: the sources do not speak of it.
-use Rattle.std.specs.Prelude.{ℕ, Bool, false, not, ◌&&◌, nat_lt, ◌==◌, List, drop, filter}
+use Rattle.std.specs.Prelude.{ℕ, ◌/◌, Bool, false, not, ◌&&◌, nat_lt, ◌==◌, List, drop, filter}
 use Rattle.std.specs.Prelude.{◌++◌, [], flat_map, length, map}
 use Rattle.std.specs.List.{list_any}
 use Rattle.ea_model.specs.declared.carriers.BlockAt.{BlockAt}
 use Rattle.ea_model.specs.declared.entries.Entry.TheVariants as entry
+use Rattle.ea_model.specs.declared.units.TheConstants.{PAGE_UNITS}
 use Rattle.ea_model.specs.Content.{Content}
 use Rattle.ea_model.specs.Entries.{Entry}
 use Rattle.ea_model.specs.Keyed.{merged}
@@ -31,6 +32,9 @@ by_name blocks = merged (λ x. x.block.name) blocks []
 -- births differ
 abbrev pub same_carrier : Content → Content → Bool
 same_carrier x y = (x.number == y.number) && (x.birth == y.birth)
+
+abbrev pub pages_of : Content → ℕ
+pages_of x = x.units / PAGE_UNITS
 
 -- whether the entry is that of a reallocation in place, by which the block of the old name has a
 -- new one
@@ -90,7 +94,8 @@ module _ (setup : Setup) where
 
   -- whether the carrier was there before the step with more pages
   abbrev pub is_shrunk : Step → Content → Bool
-  is_shrunk s x = list_any (λ y. same_carrier x y && nat_lt x.units y.units) (contents s.before)
+  is_shrunk s x = list_any (λ y. same_carrier x y && nat_lt (pages_of x) (pages_of y))
+      (contents s.before)
 
   -- the carriers that the step left with fewer pages, by rising number, as they are after it
   abbrev pub shrunk : Step → List Content

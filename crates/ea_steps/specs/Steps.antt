@@ -2,6 +2,7 @@
 -- with the states before and after it.
 -- This simulator's own: the sources do not speak of it.
 use Rattle.std.specs.Prelude.{ℕ, suc, Bool, true, false, List, [], ◌∷◌, ◌++◌}
+use Rattle.std.specs.Prelude.{◌==◌, count_by}
 use Rattle.ea_machine.specs.Machine.{start, step, wants}
 use Rattle.ea_machine.specs.Rows.{Answer, Row}
 use Rattle.ea_machine.specs.Setup.{Setup}
@@ -25,6 +26,10 @@ row_of s = wants (s.before.actors s.scheduler)
 -- what that answered
 abbrev pub answer_of : Step → Answer
 answer_of s = answered s.before s.scheduler
+
+-- how many of the steps are of the scheduler
+abbrev pub own_count : ℕ → List Step → ℕ
+own_count me steps = count_by (λ s. s.scheduler == me) steps
 
 -- the step, as a list of at most one
 abbrev pub step_unless : Bool → Step → List Step

@@ -1,11 +1,10 @@
 -- The text of the command (`steps_text`): each step of a run with what it did, and then the
 -- carriers that are there in the end, and their sums.
 -- This simulator's own: the sources do not speak of it.
-use Rattle.std.specs.Prelude.{ℕ, ◌/◌, Bool, true, false, ◌==◌, List, [], ◌∷◌, ◌++◌, codes, decimal}
+use Rattle.std.specs.Prelude.{ℕ, Bool, true, false, ◌==◌, List, [], ◌∷◌, ◌++◌, codes, decimal}
 use Rattle.std.specs.Prelude.{flat_map, if◌then◌else◌, length}
 use Rattle.ea_model.specs.declared.settings.Config.{Config}
 use Rattle.ea_model.specs.declared.trace.Trace.{Trace}
-use Rattle.ea_model.specs.declared.units.TheConstants.{PAGE_UNITS}
 use Rattle.ea_model.specs.Content.{Content}
 use Rattle.ea_model.specs.Entries.{Entry}
 use Rattle.ea_machine.specs.Completion.{course_of}
@@ -13,7 +12,7 @@ use Rattle.ea_machine.specs.Outcome.{outcome_of}
 use Rattle.ea_machine.specs.Setup.{Setup, setup_of}
 use Rattle.ea_report.specs.Text.{carrier_text, entry_text, kind_text, line, totals_text}
 use Rattle.ea_sound.specs.Turns.{is_ended}
-use Rattle.ea_steps.specs.Changes.{PlacedBlock, gone, logged, made, released, shrunk}
+use Rattle.ea_steps.specs.Changes.{PlacedBlock, gone, logged, made, pages_of, released, shrunk}
 use Rattle.ea_steps.specs.Groups.{Group, Joined, Looks, Tries, Apart, groups, joined}
 use Rattle.ea_steps.specs.Rows.{Words, row_words}
 use Rattle.ea_steps.specs.Steps.{Step, answer_of, row_of, steps_of}
@@ -27,9 +26,8 @@ released_text x = line (codes "released") (decimal x.block.name ∷ decimal x.ca
 abbrev pub gone_text : Content → List ℕ
 gone_text x = line (codes "gone") (decimal x.number ∷ [])
 
--- the pages of a carrier
 abbrev pub pages_text : Content → List ℕ
-pages_text x = decimal (x.units / PAGE_UNITS)
+pages_text x = decimal (pages_of x)
 
 abbrev pub shrunk_text : Content → List ℕ
 shrunk_text x = line (codes "shrunk") (decimal x.number ∷ codes "pages" ∷ pages_text x ∷ [])

@@ -217,9 +217,9 @@ moved_at Ready = []
 
 -- where a block lies that the step placed
 abbrev pub placed : Step → List Place
-placed s = flat_map placed_by (added s) ++ moved_at (s.after.actors s.scheduler).stage
+placed s = moved_at (s.after.actors s.scheduler).stage ++ flat_map placed_by (added s)
 
--- the carriers that a step may make, by what it logged and came to
+-- the carriers that a step may make, by what it came to and logged
 abbrev pub may_come : Step → List ℕ
 may_come s = created_by (row_of s) ++ map (λ p. p.carrier) (placed s)
 
