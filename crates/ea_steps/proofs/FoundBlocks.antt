@@ -1,18 +1,20 @@
 -- The blocks that are there: what is found under a name, and what begins at a spot.
 use Rattle.std.proofs.Common.{◌≡◌, ◌≢◌, ℕ, ◌≤◌, Bool, true, false}
-use Rattle.std.proofs.Common.{refl, ap, ◌∙◌, inl, inr, arith, get_or}
+use Rattle.std.proofs.Common.{List, [], ◌∷◌, map}
+use Rattle.std.proofs.Common.{refl, sym, ap, ◌∙◌, inl, inr, arith, get_or}
 use Rattle.std.specs.Prelude.{Option, None, Some, ◌==◌}
 use Rattle.std.specs.Option.{option_and_then}
-use Rattle.std.proofs.lemmas.Bool.{cases_lt}
+use Rattle.std.proofs.lemmas.Bool.{cases_eq, cases_lt}
 use Rattle.ea_model.specs.declared.carriers.BlockAt.{BlockAt}
 use Rattle.ea_model.specs.declared.carriers.Place.{Place}
 use Rattle.ea_model.specs.declared.carriers.Spot.{Spot}
 use Rattle.ea_model.specs.Content.{Content, block_at}
 use Rattle.ea_model.specs.Instance.{block_in, content_of}
 use Rattle.ea_model.specs.Keyed.{item_at}
-use Rattle.ea_model.proofs.Rising.{item_at-key}
+use Rattle.ea_model.proofs.Rising.{item_at-key, item_here, item_past}
 use Rattle.ea_laws.proofs.BlockLists.{offset_of}
 use Rattle.ea_laws.specs.Kept.{number_of}
+use Rattle.ea_machine.specs.Outcome.{Present, present}
 use Rattle.ea_machine.specs.Setup.{Setup}
 use Rattle.ea_machine.specs.State.{State}
 use Rattle.ea_machine.specs.Sums.{one_if, sum_over}
@@ -32,6 +34,7 @@ use Rattle.ea_sound.proofs.Ranged.{sum-flat}
 use Rattle.ea_sound.proofs.SoundOwners.{number-once}
 use Rattle.ea_sound.proofs.Weights.{sum-less, sum-map, sum-same}
 use Rattle.ea_steps.specs.Changes.{PlacedBlock, blocks, blocks_in, contents}
+use Rattle.ea_steps.specs.Found.{block_there}
 use Rattle.ea_steps.proofs.SortedItems.{AreDifferent}
 
 abbrev pub name_at : PlacedBlock → ℕ
@@ -105,6 +108,29 @@ if_named false m = m
 abbrev unless_named : ℕ → Option BlockAt → ℕ → ℕ
 unless_named n None m = m
 unless_named n (Some b) m = if_named (b.name == n) m
+
+-- what begins at a spot is looked up in the contents
+content-there : (offset c : ℕ) (ps : List Present)
+    → option_and_then (λ (p : Present). block_at p.content.blocks offset)
+    (item_at (λ (p : Present). p.content.number) ps c)
+    ≡ option_and_then (λ (x : Content). block_at x.blocks offset)
+    (content_of (map (λ (p : Present). p.content) ps) c)
+content-there offset c [] = refl
+content-there offset c (p ∷ ps) = elim (cases_eq p.content.number c) [
+  | inl here ↦ ap (option_and_then (λ (q : Present). block_at q.content.blocks offset))
+      (item_here (λ (q : Present). q.content.number) c p ps here)
+      ∙ sym (ap (option_and_then (λ (x : Content). block_at x.blocks offset))
+      (item_here number_of c p.content (map (λ (q : Present). q.content) ps) here))
+  | inr other ↦ ap (option_and_then (λ (q : Present). block_at q.content.blocks offset))
+      (item_past (λ (q : Present). q.content.number) c p ps other)
+      ∙ content-there offset c ps
+      ∙ sym (ap (option_and_then (λ (x : Content). block_at x.blocks offset))
+      (item_past number_of c p.content (map (λ (q : Present). q.content) ps) other))
+]
+
+pub there-content : (e : Setup) (w : State) (p : Spot)
+    → block_there e w p ≡ block_in (contents e w) p
+there-content e w p = content-there p.offset p.carrier (present e w)
 
 module _ (e : Setup) (w : State) (k : Kept e w) where
   -- what blocks weigh, one by one and carrier by carrier

@@ -9,6 +9,7 @@ pub mod WorkedNames
 pub mod TouchedNames
 pub mod TouchedBlocks
 pub mod ReleasedBlocks
+pub mod ByName
 -- Which carriers come, go and shrink by a step.
 pub mod CarrierWeights
 pub mod KeptCarriers

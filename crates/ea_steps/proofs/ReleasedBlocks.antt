@@ -1,9 +1,9 @@
 -- What a step released: those of the blocks found at the spots of touched names before it that are
 -- gone from there after it, by rising name.
 use Rattle.std.proofs.Common.{◌≡◌, ◌≢◌, ℕ, zero, suc, ◌+◌, ◌<◌, ◌≤◌, Bool, true, false, List, []}
-use Rattle.std.proofs.Common.{◌∷◌, ◌++◌, map, refl, sym, ap, ◌∙◌, subst, inl, inr, arith}
+use Rattle.std.proofs.Common.{◌∷◌, ◌++◌, refl, sym, ap, ◌∙◌, subst, inl, inr, arith}
 use Rattle.std.specs.Prelude.{Option, None, Some, All, filter, flat_map, not, ◌&&◌, ◌||◌, ◌==◌}
-use Rattle.std.specs.Prelude.{if◌then◌else◌}
+use Rattle.std.specs.Prelude.{if◌then◌else◌, option_map}
 use Rattle.std.specs.List.{list_any}
 use Rattle.std.specs.Option.{option_and_then, option_map_or}
 use Rattle.std.proofs.lemmas.Bool.{cases_eq, cases_lt, eqb-true}
@@ -13,7 +13,7 @@ use Rattle.ea_model.specs.declared.carriers.BlockAt.{BlockAt}
 use Rattle.ea_model.specs.declared.carriers.Place.{Place}
 use Rattle.ea_model.specs.declared.carriers.Spot.{Spot}
 use Rattle.ea_model.specs.Content.{Content, block_at}
-use Rattle.ea_model.specs.Instance.{content_of}
+use Rattle.ea_model.specs.Instance.{block_in, content_of}
 use Rattle.ea_model.specs.Keyed.{item_at}
 use Rattle.ea_model.proofs.Rising.{item_at-key, item_here, item_past}
 use Rattle.ea_laws.proofs.BlockLists.{offset_of}
@@ -31,16 +31,17 @@ use Rattle.ea_sound.specs.Turns.{answered}
 use Rattle.ea_sound.proofs.KeptPlaces.{keeps-places}
 use Rattle.ea_sound.proofs.KeyedWeights.{times}
 use Rattle.ea_sound.proofs.TurnLists.{run-snoc}
-use Rattle.ea_steps.specs.Changes.{PlacedBlock, blocks, by_name, has_block, is_released}
+use Rattle.ea_steps.specs.Changes.{PlacedBlock, blocks, by_name, contents, has_block, is_released}
 use Rattle.ea_steps.specs.Changes.{is_renamed, released}
-use Rattle.ea_steps.specs.Found.{block_there, found, found_before, gone_blocks, is_gone, lies_there}
-use Rattle.ea_steps.specs.Found.{spot_of}
+use Rattle.ea_steps.specs.Found.{block_there, found_before, gone_blocks, is_gone, is_there}
+use Rattle.ea_steps.specs.Found.{placed_at, spot_of}
 use Rattle.ea_steps.specs.Steps.{Step, step_of}
 use Rattle.ea_steps.specs.Touched.{as_list, touched}
 use Rattle.ea_steps.proofs.FoundBlocks.{begins-lies, begins-there, blocks-sum, found-lies}
 use Rattle.ea_steps.proofs.FoundBlocks.{lies-begins, lies-found, name_at, names-different, place_at}
 use Rattle.ea_steps.proofs.SortedItems.{AreDifferent, filter-alike, filter-different, filter-found}
 use Rattle.ea_steps.proofs.SortedItems.{filter-none, none-found, sorted-same}
+use Rattle.ea_steps.proofs.FoundBlocks.{there-content}
 use Rattle.ea_steps.proofs.TouchedBlocks.{gone-touched, rule-after, touched-lie, touched-stands}
 
 -- whether a name is found, and whether any block has it
@@ -103,7 +104,7 @@ counted-name n y h is = ap (λ m. if m == n then 1 else 0) is
 module _ (e : Setup) (w : State) (k : Kept e w) where
   pub record IsKnown (h : Named) : Type 0 where
     pub block : PlacedBlock
-    pub is : found e w h ≡ block ∷ []
+    pub is : as_list (placed_at e w h) ≡ block ∷ []
     pub name : name_at block ≡ h.name
     pub lies : LiesAt e h.name (place_at block) w
     pub there : item_at name_at (blocks e w) h.name ≡ Some block
@@ -113,10 +114,10 @@ module _ (e : Setup) (w : State) (k : Kept e w) where
   in-content p b None at = absurd cc
   in-content p b (Some x) at = item_at-key offset_of p.offset b x.blocks at
 
-  known-by : (h : Named) (b : BlockAt) → block_there e w h.spot ≡ Some b → b.name ≡ h.name
-      → IsKnown h
+  known-by : (h : Named) (b : BlockAt) → block_in (contents e w) h.spot ≡ Some b
+      → b.name ≡ h.name → IsKnown h
   known-by h b begins name =
-      let offset = in-content h.spot b (content_of _ h.spot.carrier) begins in
+      let offset = in-content h.spot b (content_of (contents e w) h.spot.carrier) begins in
       let y : PlacedBlock = record { carrier = h.spot.carrier; block = b } in
       let lies : LiesAt e h.name (place_at y) w = subst (λ m. LiesAt e m (place_at y) w) name
       (subst (λ o. LiesAt e b.name
@@ -124,8 +125,8 @@ module _ (e : Setup) (w : State) (k : Kept e w) where
       (begins-lies e w k h.spot b begins)) in
       record {
         block = y;
-        is = ap (λ o. map (λ d. record { carrier = h.spot.carrier; block = d }) (as_list o))
-            begins;
+        is = ap (λ o. as_list (option_map (λ d. record { carrier = h.spot.carrier; block = d }) o))
+            (there-content e w h.spot ∙ begins);
         name = name;
         lies = lies;
         there = lies-found e w k h.name (place_at y) lies
@@ -141,7 +142,7 @@ module _ (e : Setup) (w : State) (k : Kept e w) where
       known-by h b begins name
 
   abbrev found_all : List Named → List PlacedBlock
-  found_all hs = flat_map (found e w) hs
+  found_all hs = flat_map (λ h. as_list (placed_at e w h)) hs
 
   -- those that are found have the names
   found-times : (n : ℕ) (hs : List Named) → All IsKnown hs
@@ -215,23 +216,23 @@ module _ (e : Setup) (rules : (L : List ℕ) → Rule e (run e L)) (L : List ℕ
     lies = subst (λ m. LiesAt e m (place_at y) w) (sym is.name) is.lies
 
     there-by : (b : BlockAt) → block_there e v (spot_of y) ≡ Some b → b.name ≡ n
-        → lies_there e v y ≡ true
+        → is_there e v y ≡ true
     there-by b begins name =
         ap (λ o. option_map_or (λ (d : BlockAt). d.name == n) o false) begins ∙ same b.name n name
       where
         same : (m n : ℕ) → m ≡ n → (m == n) ≡ true
         same m n is = grind (arith, is)
 
-    has-lies : has_block e v n ≡ true → lies_there e v y ≡ true
+    has-lies : has_block e v n ≡ true → is_there e v y ≡ true
     has-lies has =
         let (z, found) = any-found n (blocks e v) has in
         let z-lies = found-lies e v after n z found in
         let same = keeps-place n (place_at y) (place_at z) lies z-lies in
         let (b, begins, name) = lies-begins e v after n (place_at y)
         (subst (λ p. LiesAt e n p v) same z-lies) in
-        there-by b begins name
+        there-by b (there-content e v (spot_of y) ∙ begins) name
 
-    lies-has : lies_there e v y ≡ true → has_block e v n ≡ true
+    lies-has : is_there e v y ≡ true → has_block e v n ≡ true
     lies-has there = by (block_there e v (spot_of y)) refl there where
       by : (o : Option BlockAt) → block_there e v (spot_of y) ≡ o
           → option_map_or (λ (d : BlockAt). d.name == n) o false ≡ true
@@ -239,18 +240,19 @@ module _ (e : Setup) (rules : (L : List ℕ) → Rule e (run e L)) (L : List ℕ
       by None begins is = absurd cc
       by (Some b) begins is =
           let name = eqb-true b.name n is in
-          let b-lies = begins-lies e v after (spot_of y) b begins in
+          let b-lies = begins-lies e v after (spot_of y) b
+          (sym (there-content e v (spot_of y)) ∙ begins) in
           subst (λ m. has_block e v m ≡ true) name
           (found-any b.name _ (blocks e v) (lies-found e v after b.name _ b-lies))
 
-    agree : (b c : Bool) → has_block e v n ≡ b → lies_there e v y ≡ c
-        → lies_there e v y ≡ has_block e v n
+    agree : (b c : Bool) → has_block e v n ≡ b → is_there e v y ≡ c
+        → is_there e v y ≡ has_block e v n
     agree true c has there = has-lies has ∙ sym has
     agree false true has there = there ∙ sym (lies-has there)
     agree false false has there = there ∙ sym has
 
-    pub asked-there : lies_there e v y ≡ has_block e v n
-    asked-there = agree (has_block e v n) (lies_there e v y) refl refl
+    pub asked-there : is_there e v y ≡ has_block e v n
+    asked-there = agree (has_block e v n) (is_there e v y) refl refl
 
   module _ (count own : ℕ) (works : (w.actors me).stage ≢ Ended) where
     abbrev s : Step
