@@ -53,8 +53,8 @@ of_units n b u x = one_if (((x.number == n) && (x.birth == b)) && (x.units == u)
 abbrev pub staying : ℕ → Content → ℕ
 staying n x = one_if ((x.number == n) && not (is_vacant x))
 
-pub birth-weight : ℕ → ℕ → Weight
-birth-weight n b = record {
+abbrev pub birth_weight : ℕ → ℕ → Weight
+birth_weight n b = record {
   of = of_birth n b;
   Places = λ c. Unit {0};
   Shortens = λ c. Unit {0};
@@ -65,11 +65,11 @@ birth-weight n b = record {
 }
 
 -- fewer pages in a carrier of another number
-units-other : (n b u m d v : ℕ) → m ≢ n → one_if (((m == n) && (d == b)) && (v == u)) ≡ 0
+pub units-other : (n b u m d v : ℕ) → m ≢ n → one_if (((m == n) && (d == b)) && (v == u)) ≡ 0
 units-other n b u m d v other = grind (arith, other)
 
-pub units-weight : ℕ → ℕ → ℕ → Weight
-units-weight n b u = record {
+abbrev pub units_weight : ℕ → ℕ → ℕ → Weight
+units_weight n b u = record {
   of = of_units n b u;
   Places = λ c. Unit {0};
   Shortens = λ c. c ≢ n;
@@ -80,17 +80,17 @@ units-weight n b u = record {
 }
 
 -- a block fewer
-nil-without : (offset : ℕ) (bs : List BlockAt) → is_nil bs ≡ true
+pub nil-without : (offset : ℕ) (bs : List BlockAt) → is_nil bs ≡ true
     → is_nil (without (λ b. b.offset) offset bs) ≡ true
 nil-without offset [] q = refl
 nil-without offset (b ∷ bs) q = absurd cc
 
-nil-changed : (g : BlockAt → BlockAt) (offset : ℕ) (bs : List BlockAt)
+pub nil-changed : (g : BlockAt → BlockAt) (offset : ℕ) (bs : List BlockAt)
     → is_nil (changed_at (λ b. b.offset) g offset bs) ≡ is_nil bs
 nil-changed g offset [] = refl
 nil-changed g offset (b ∷ bs) = refl
 
-staying-less : (m n : ℕ) (goes before after : Bool) → (before ≡ true → after ≡ true)
+pub staying-less : (m n : ℕ) (goes before after : Bool) → (before ≡ true → after ≡ true)
     → one_if ((m == n) && not (goes && after)) ≤ one_if ((m == n) && not (goes && before))
 staying-less m n goes true after more = by after (more refl) where
   by : (after : Bool) → after ≡ true
@@ -106,11 +106,11 @@ staying-less m n goes false true more = small (m == n) goes where
   small false false = omega arith
 staying-less m n goes false false more = omega arith
 
-staying-other : (m n : ℕ) (t : Bool) → m ≢ n → one_if ((m == n) && t) ≡ 0
+pub staying-other : (m n : ℕ) (t : Bool) → m ≢ n → one_if ((m == n) && t) ≡ 0
 staying-other m n t other = grind (arith, other)
 
-pub staying-weight : ℕ → Weight
-staying-weight n = record {
+abbrev pub staying_weight : ℕ → Weight
+staying_weight n = record {
   of = staying n;
   Places = λ c. c ≢ n;
   Shortens = λ c. Unit {0};

@@ -16,3 +16,5 @@ pub mod KeptCarriers
 pub mod MadeCarriers
 pub mod StepCarriers
 pub mod CarrierSums
+pub mod GoneCarriers
+pub mod ChangedCarriers

@@ -80,7 +80,7 @@ module _ (e : Setup) (me : ℕ) (Going : Named → Type 0) (Cut Cleared : ℕ �
   pub data Does (a : Actor) (r : Answer) (st : Stage Content) (b : Actor) : Type 1 where
     Unmade : (stays : From a st r b) → Does a r st b
     Begun : (off : migration e ≡ false) (ready : (after_row e me a r st).stage ≡ Ready)
-        (before : From a st r (after_row e me a r st)) (plan : CarrierPlan)
+        (held : (after_row e me a r st).held ≡ a.held) (before : From a st r (after_row e me a r st)) (plan : CarrierPlan)
         (grows : Grows e me Going (after_row e me a r st).instance a.log plan b) → Does a r st b
     Created : (ask : Ask) (plan : CarrierPlan) (at : st ≡ Creating ask plan)
         (grows : Grows e me Going a.instance a.log plan b) → Does a r st b
@@ -130,35 +130,35 @@ module _ (e : Setup) (me : ℕ) (Going : Named → Type 0) (Cut Cleared : ℕ �
       b = after_row e me a r st
 
       -- the operation itself, where it begins in this step
-      operation-does : b.stage ≡ Ready → From a st r b → b.log ≡ a.log
+      operation-does : b.stage ≡ Ready → From a st r b → b.log ≡ a.log → b.held ≡ a.held
           → Goes e me Going Cut Cleared may b.instance nothing b.log (itself e me b b.todo)
           → Does a r st (itself e me b b.todo)
-      operation-does ready before same (Same stays busy) =
+      operation-does ready before same held (Same stays busy) =
           let c = itself e me b b.todo in
           Unmade (keeps-on Any Cut Cleared a.instance b.instance c.instance (left_at st r)
           (hand_of b) (hand_of c) before
           (keeps-on Any Cut Cleared b.instance b.instance c.instance (hand_of b) nothing
           (hand_of c) (keeps-less Any Cut Cleared b.instance (hand_of b) nothing
           (λ f. omega arith)) stays))
-      operation-does ready before same (More off plan grows) =
-          Begun off ready before plan
+      operation-does ready before same held (More off plan grows) =
+          Begun off ready held before plan
           (subst (λ log. Grows e me Going b.instance log plan (itself e me b b.todo)) same grows)
 
-      walk-does : From a st r b → b.log ≡ a.log
+      walk-does : From a st r b → b.log ≡ a.log → b.held ≡ a.held
           → (b.stage ≡ Ready → OpGoing e me Going Cut Cleared may b b.todo)
           → (at : Stage Content) → b.stage ≡ at → Does a r st (onward_at e me b at)
-      walk-does before same going Ready q =
-          operation-does q before same
+      walk-does before same held going Ready q =
+          operation-does q before same held
           (itself-goes e me Going Cut Cleared may b b.todo (going q))
-      walk-does before same going Begin q = Unmade before
-      walk-does before same going (Routed z y g) q = Unmade before
-      walk-does before same going (Collecting n) q = Unmade before
-      walk-does before same going (Searching ask n part) q = Unmade before
-      walk-does before same going (Fetching ask n part seen) q = Unmade before
-      walk-does before same going (Creating ask p) q = Unmade before
-      walk-does before same going (Giving given to) q = Unmade before
-      walk-does before same going (Taking n tries left) q = Unmade before
-      walk-does before same going Ended q = Unmade before
+      walk-does before same held going Begin q = Unmade before
+      walk-does before same held going (Routed z y g) q = Unmade before
+      walk-does before same held going (Collecting n) q = Unmade before
+      walk-does before same held going (Searching ask n part) q = Unmade before
+      walk-does before same held going (Fetching ask n part seen) q = Unmade before
+      walk-does before same held going (Creating ask p) q = Unmade before
+      walk-does before same held going (Giving given to) q = Unmade before
+      walk-does before same held going (Taking n tries left) q = Unmade before
+      walk-does before same held going Ended q = Unmade before
 
       -- who isn't ready goes on with nothing
       still-does : Does a r st b → (at : Stage Content) → at ≢ Ready
@@ -236,15 +236,17 @@ module _ (e : Setup) (me : ℕ) (Going : Named → Type 0) (Cut Cleared : ℕ �
         (after_row e me a r (Creating ask p)).stage grows.busy
 
     -- each row; the operation that begins in the step has a block that goes
-    module _ (begins : (st : Stage Content) → a.stage ≡ st → (after_row e me a r st).stage ≡ Ready
+    module _ (begins : (st : Stage Content) → a.stage ≡ st → IsInBegin st → st ≢ Ended
+        → st ≢ Ready → (after_row e me a r st).stage ≡ Ready
         → OpGoing e me Going Cut Cleared may (after_row e me a r st) (after_row e me a r st).todo)
       where
         walked-does : (st : Stage Content) → a.stage ≡ st → IsInBegin st → st ≢ Ended → st ≢ Ready
             → RowMayGo a r st → Does a r st (onward e me (after_row e me a r st))
         walked-does st q is ne nr m =
             let b = after_row e me a r st in
-            walk-does st (walk-keeps st is m) (walks e me a st r is ne nr).0.0 (begins st q) b.stage
-            refl
+            walk-does st (walk-keeps st is m) (walks e me a st r is ne nr).0.0
+            (walks e me a st r is ne nr).2
+            (begins st q is ne nr) b.stage refl
 
         row-does : (st : Stage Content) → a.stage ≡ st → RowMayGo a r st
             → Does a r st (onward e me (after_row e me a r st))
@@ -289,13 +291,14 @@ module _ (e : Setup) (me : ℕ) (Going : Named → Type 0) (Cut Cleared : ℕ �
   observed-does : (a : Actor) (r : Answer) (st : Stage Content) (b : Actor) → Does a r st b
       → Does a r st (observed b)
   observed-does a r st b (Unmade stays) = Unmade stays
-  observed-does a r st b (Begun off ready before p grows) = Begun off ready before p
+  observed-does a r st b (Begun off ready held before p grows) = Begun off ready held before p
       (observed-grows (after_row e me a r st).instance a.log p b grows)
   observed-does a r st b (Created ask p at grows) =
       Created ask p at (observed-grows a.instance a.log p b grows)
 
   pub step-does : (a : Actor) (r : Answer)
-      → ((st : Stage Content) → a.stage ≡ st → (after_row e me a r st).stage ≡ Ready
+      → ((st : Stage Content) → a.stage ≡ st → IsInBegin st → st ≢ Ended → st ≢ Ready
+      → (after_row e me a r st).stage ≡ Ready
       → OpGoing e me Going Cut Cleared may (after_row e me a r st) (after_row e me a r st).todo)
       → (st : Stage Content) → a.stage ≡ st → RowMayGo a r st
       → Does a r st (observed (onward e me (after_row e me a r st)))
