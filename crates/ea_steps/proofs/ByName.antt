@@ -1,8 +1,9 @@
 -- Blocks by rising name, as they are found of a step in a reached state: what code sorts is what the
 -- step released.
-use Rattle.std.proofs.Common.{◌≡◌, ◌≢◌, ◌⊎◌, ℕ, List, [], ◌∷◌, sym, ◌∙◌, subst, inl, inr}
+use Rattle.std.proofs.Common.{ap, ◌≡◌, ◌≢◌, ◌⊎◌, ℕ, List, [], ◌∷◌, sym, ◌∙◌, subst, inl, inr}
 use Rattle.std.specs.Prelude.{All, AllPairs, filter}
 use Rattle.std.specs.List.{AllByRecursion}
+use Rattle.std.specs.List.Sorted.{IsNonDecreasingBy, IsPermutation}
 use Rattle.std.proofs.lemmas.Bool.{cases_lt}
 use Rattle.std.proofs.lemmas.List.Elements.{All-head, All-tail}
 use Rattle.ea_model.specs.declared.settings.Config.{Config}
@@ -23,7 +24,8 @@ use Rattle.ea_steps.specs.Steps.{Step, step_of}
 use Rattle.ea_steps.proofs.FoundBlocks.{name_at}
 use Rattle.ea_steps.proofs.ReleasedBlocks.{found-different, released-gone}
 use Rattle.ea_steps.proofs.Rising.{Has, IsRising, rising-same}
-use Rattle.ea_steps.proofs.SortedItems.{AreDifferent, filter-different, sorted-rises}
+use Rattle.ea_steps.proofs.SortedItems.{AreDifferent, filter-different, filter-sorted}
+use Rattle.ea_steps.proofs.SortedItems.{permuted-sorted, sorted-rises}
 
 by-recursion : {A : Type 0} (P : A → Type 0) (xs : List A) → All P xs → AllByRecursion P xs
 by-recursion P [] all = tt
@@ -122,4 +124,13 @@ module _ (c : Config) (t : Trace) (valid : IsValidConfig c) (made : IsValidTrace
       rising-by_name (filter (is_gone e s) (found_before e s)) sorted
       (filter-different name_at (is_gone e s) (found_before e s) step-found_different)
       rises into back
+      ∙ sym step-released
+
+  -- and so is what the test leaves of all that were found, in an order in which names don't fall
+  pub filtered-released : (sorted : List PlacedBlock) → IsPermutation (found_before e s) sorted
+      → IsNonDecreasingBy name_at sorted → filter (is_gone e s) sorted ≡ released e s
+  filtered-released sorted same rises =
+      ap (filter (is_gone e s))
+      (permuted-sorted name_at (found_before e s) sorted step-found_different same rises)
+      ∙ filter-sorted name_at (is_gone e s) (found_before e s) step-found_different
       ∙ sym step-released

@@ -1,16 +1,20 @@
 -- Items with different keys, by rising key: what is found under each key says what the list is.
-use Rattle.std.proofs.Common.{◌≡◌, ◌≢◌, ℕ, ◌<◌, ◌≤◌, Bool, true, false, List, [], ◌∷◌, refl, sym}
-use Rattle.std.proofs.Common.{ap, ◌∙◌, inl, inr, arith}
+use Rattle.std.proofs.Common.{◌≡◌, ◌≢◌, ℕ, zero, suc, ◌<◌, ◌≤◌, Bool, true, false, List, [], ◌∷◌}
+use Rattle.std.proofs.Common.{get_or, refl, sym, ap, ◌∙◌, subst, inl, inr, arith}
 use Rattle.std.specs.Prelude.{Option, None, Some, All, AllPairs, filter, if◌then◌else◌, ◌==◌}
-use Rattle.std.proofs.lemmas.Bool.{cases_eq, cases_lt}
-use Rattle.std.proofs.lemmas.List.Elements.{All-head, All-tail}
+use Rattle.std.specs.List.Sorted.{IsNonDecreasingBy, IsPermutation}
+use Rattle.std.proofs.lemmas.Bool.{cases_eq, cases_lt, cond_both}
+use Rattle.std.proofs.lemmas.List.Elements.{All-cons, All-filter, All-head, All-nil, All-tail}
+use Rattle.std.proofs.lemmas.List.Kept.{AllPairs-cons}
+use Rattle.std.proofs.lemmas.List.Sorted.{All-permutation, sum_by-IsPermutation}
 use Rattle.ea_model.specs.Keyed.{IsBelow, item_at, merged}
 use Rattle.ea_model.proofs.Merged.{merged-first, merged-second}
 use Rattle.ea_model.proofs.Pairs.{pairs_head, pairs_nil, pairs_tail}
-use Rattle.ea_model.proofs.Rising.{item_at-key, item_here, item_past, none-other, others}
-use Rattle.ea_model.proofs.Rising.{rising-entered}
-use Rattle.ea_sound.proofs.KeyedWeights.{counts-key, sum-item, sum-merged, times}
-use Rattle.ea_sound.proofs.Weights.{sum-filter}
+use Rattle.ea_model.proofs.Rising.{item_at-All, item_at-key, item_here, item_past, none-other}
+use Rattle.ea_model.proofs.Rising.{others, rising-entered}
+use Rattle.ea_sound.proofs.KeyedWeights.{counts-key, counts-other, sum-item, sum-merged}
+use Rattle.ea_sound.proofs.KeyedWeights.{sum-missing, times, times-once}
+use Rattle.ea_sound.proofs.Weights.{sum-filter, sum_by-sum_over}
 
 module _ {A : Type 0} (key_of : A → ℕ) where
   abbrev Rises : List A → Type 0
@@ -183,3 +187,142 @@ module _ {A : Type 0} (key_of : A → ℕ) where
       let rest = filter-alike p q xs (All-tail (λ x. p x ≡ q x) x xs all) in
       ap (λ b. if b then x ∷ filter p xs else filter p xs) (All-head (λ x. p x ≡ q x) x xs all)
       ∙ ap (λ zs. if q x then x ∷ zs else zs) rest
+
+-- An item that is kept where it passes a test.
+abbrev pub kept_if : {A : Type 0} → (A → Bool) → Option A → Option A
+kept_if p None = None
+kept_if p (Some x) = if p x then Some x else None
+
+module _ {A : Type 0} (key_of : A → ℕ) where
+  -- each of different items is found under its key
+  pub different-each : (xs : List A) → AreDifferent key_of xs
+      → All (λ x. item_at key_of xs (key_of x) ≡ Some x) xs
+  different-each [] only = All-nil (λ x. item_at key_of [] (key_of x) ≡ Some x)
+  different-each (x ∷ xs) only =
+      All-cons (λ y. item_at key_of (x ∷ xs) (key_of y) ≡ Some y) x xs
+      (item_here key_of (key_of x) x xs refl)
+      (λ i d within. item_past key_of (key_of (get_or xs i d)) x xs
+      (λ q. others-differ x xs only i d within (sym q))
+      ∙ different-each xs (later-different key_of x xs only) i d within)
+    where
+      others-differ : (x : A) (xs : List A) → AreDifferent key_of (x ∷ xs)
+          → All (λ y. key_of y ≢ key_of x) xs
+      others-differ x xs only = none-other key_of (key_of x) xs
+          (none-found key_of (key_of x) xs (first-different key_of x xs only))
+
+  -- a list of the same items
+  module _ (xs ys : List A) (only : AreDifferent key_of xs) (same : IsPermutation xs ys) where
+    same-times : (key : ℕ) → times key_of key ys ≡ times key_of key xs
+    same-times key =
+        let f : A → ℕ = λ x. if key_of x == key then 1 else 0 in
+        sym (sum_by-sum_over f ys) ∙ sum_by-IsPermutation f xs ys same ∙ sum_by-sum_over f xs
+
+    pub permuted-different : AreDifferent key_of ys
+    permuted-different key = omega (arith, same-times key, only key)
+
+    permuted-found : (key : ℕ) → item_at key_of ys key ≡ item_at key_of xs key
+    permuted-found key = by (item_at key_of ys key) refl where
+      by : (o : Option A) → item_at key_of ys key ≡ o
+          → item_at key_of ys key ≡ item_at key_of xs key
+      by None q = q ∙ sym (none-found key_of key xs (omega (
+        arith,
+        same-times key,
+        missing q,
+      ))) where
+        missing : item_at key_of ys key ≡ None → times key_of key ys ≡ 0
+        missing none = sum-missing key_of (λ x. if key_of x == key then 1 else 0) key ys
+            (λ x other. counts-other key_of key x other) none
+      by (Some y) q =
+          let there = item_at-All key_of (λ x. item_at key_of xs (key_of x) ≡ Some x) key y ys
+          (All-permutation (λ x. item_at key_of xs (key_of x) ≡ Some x) xs ys same
+          (different-each xs only)) q in
+          q ∙ sym (subst (λ m. item_at key_of xs m ≡ Some y) (item_at-key key_of key y ys q) there)
+
+  -- different items whose keys don't fall rise
+  pub different-rises : (ys : List A) → AreDifferent key_of ys → IsNonDecreasingBy key_of ys
+      → AllPairs (IsBelow key_of) ys
+  different-rises [] only rises = pairs_nil (IsBelow key_of)
+  different-rises (y ∷ ys) only rises = AllPairs-cons (IsBelow key_of) y ys
+      (λ i d within. strict (key_of y) (key_of (get_or ys i d))
+      (rises zero (suc i) d (omega arith) (omega (arith, within)))
+      (λ q. others-differ y ys only i d within (sym q)))
+      (different-rises ys (later-different key_of y ys only)
+      (λ i j d before within. rises (suc i) (suc j) d (omega (arith, before))
+      (omega (arith, within))))
+    where
+      strict : (m n : ℕ) → m ≤ n → m ≢ n → m < n
+      strict m n le other = omega (arith, le, other)
+
+      others-differ : (x : A) (xs : List A) → AreDifferent key_of (x ∷ xs)
+          → All (λ y. key_of y ≢ key_of x) xs
+      others-differ x xs only = none-other key_of (key_of x) xs
+          (none-found key_of (key_of x) xs (first-different key_of x xs only))
+
+  -- so a list of the same items whose keys don't fall is the list by rising key
+  pub permuted-sorted : (xs ys : List A) → AreDifferent key_of xs → IsPermutation xs ys
+      → IsNonDecreasingBy key_of ys → ys ≡ sorted key_of xs
+  permuted-sorted xs ys only same rises = rising-same key_of ys (sorted key_of xs)
+      (different-rises ys (permuted-different xs ys only same) rises)
+      (sorted-rises key_of xs only)
+      (λ key. permuted-found xs ys only same key ∙ sym (sorted-found key_of xs only key))
+
+  -- what a test leaves of a rising list rises
+  pub filter-rises : (p : A → Bool) (xs : List A) → AllPairs (IsBelow key_of) xs
+      → AllPairs (IsBelow key_of) (filter p xs)
+  filter-rises p [] rises = pairs_nil (IsBelow key_of)
+  filter-rises p (x ∷ xs) rises =
+      cond_both (p x) (x ∷ filter p xs) (filter p xs) (λ zs. AllPairs (IsBelow key_of) zs)
+      (λ _. AllPairs-cons (IsBelow key_of) x (filter p xs)
+      (All-filter p (IsBelow key_of x) xs (pairs_head (IsBelow key_of) x xs rises))
+      (filter-rises p xs (pairs_tail (IsBelow key_of) x xs rises)))
+      (λ _. filter-rises p xs (pairs_tail (IsBelow key_of) x xs rises))
+
+  -- what is found among those that a test leaves
+  pub kept-found : (p : A → Bool) (xs : List A) → AreDifferent key_of xs → (key : ℕ)
+      → item_at key_of (filter p xs) key ≡ kept_if p (item_at key_of xs key)
+  kept-found p [] only key = refl
+  kept-found p (x ∷ xs) only key = elim (cases_eq (key_of x) key) [
+    | inl here ↦ by (p x) refl here ∙ sym (ap (kept_if p) (item_here key_of key x xs here))
+    | inr other ↦ past (p x) refl other
+        ∙ kept-found p xs (later-different key_of x xs only) key
+        ∙ sym (ap (kept_if p) (item_past key_of key x xs other))
+  ] where
+    first-kept : (b : Bool) → p x ≡ b
+        → filter p (x ∷ xs) ≡ (if b then x ∷ filter p xs else filter p xs)
+    first-kept b same = ap (λ t. if t then x ∷ filter p xs else filter p xs) same
+
+    past : (b : Bool) → p x ≡ b → key_of x ≢ key
+        → item_at key_of (filter p (x ∷ xs)) key ≡ item_at key_of (filter p xs) key
+    past true is other = ap (λ zs. item_at key_of zs key) (first-kept true is)
+        ∙ item_past key_of key x (filter p xs) other
+    past false is other = ap (λ zs. item_at key_of zs key) (first-kept false is)
+
+    by : (b : Bool) → p x ≡ b → key_of x ≡ key
+        → item_at key_of (filter p (x ∷ xs)) key ≡ (if p x then Some x else None)
+    by true is here = ap (λ zs. item_at key_of zs key) (first-kept true is)
+        ∙ item_here key_of key x (filter p xs) here
+        ∙ sym (ap (λ t. if t then Some x else None) is)
+    by false is here = ap (λ zs. item_at key_of zs key) (first-kept false is)
+        ∙ none-found key_of key (filter p xs) (omega (
+          arith,
+          sum-filter (λ y. if key_of y == key then 1 else 0) p xs,
+          ap (λ m. times key_of m xs) (sym here),
+          first-different key_of x xs only,
+        ))
+        ∙ sym (ap (λ t. if t then Some x else None) is)
+
+  -- a test leaves the same before and after sorting
+  pub filter-sorted : (p : A → Bool) (xs : List A) → AreDifferent key_of xs
+      → filter p (sorted key_of xs) ≡ sorted key_of (filter p xs)
+  filter-sorted p xs only =
+      let kept = filter-different key_of p xs only in
+      rising-same key_of (filter p (sorted key_of xs)) (sorted key_of (filter p xs))
+      (filter-rises p (sorted key_of xs) (sorted-rises key_of xs only))
+      (sorted-rises key_of (filter p xs) kept)
+      (λ key. kept-found p (sorted key_of xs) (rising-different (sorted key_of xs)
+      (sorted-rises key_of xs only)) key
+      ∙ ap (kept_if p) (sorted-found key_of xs only key)
+      ∙ sym (sorted-found key_of (filter p xs) kept key ∙ kept-found p xs only key))
+    where
+      rising-different : (ys : List A) → AllPairs (IsBelow key_of) ys → AreDifferent key_of ys
+      rising-different ys rises key = times-once key_of key ys rises
