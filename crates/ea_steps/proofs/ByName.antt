@@ -18,7 +18,8 @@ use Rattle.ea_machine.specs.Setup.{Setup, setup_of}
 use Rattle.ea_machine.specs.State.{State}
 use Rattle.ea_machine.specs.declared.stages.Stage.TheVariants.{Ended}
 use Rattle.ea_sound.proofs.RuleRuns.{rule-run}
-use Rattle.ea_steps.specs.Changes.{PlacedBlock, by_name, released}
+use Rattle.ea_steps.specs.declared.placed.PlacedBlock.{PlacedBlock}
+use Rattle.ea_steps.specs.Changes.{by_name, released}
 use Rattle.ea_steps.specs.Found.{found_before, gone_blocks, is_gone}
 use Rattle.ea_steps.specs.Steps.{Step, step_of}
 use Rattle.ea_steps.proofs.FoundBlocks.{name_at}

@@ -33,7 +33,8 @@ use Rattle.ea_sound.proofs.Printed.{printed-all}
 use Rattle.ea_sound.proofs.Ranged.{sum-flat}
 use Rattle.ea_sound.proofs.SoundOwners.{number-once}
 use Rattle.ea_sound.proofs.Weights.{sum-less, sum-map, sum-same}
-use Rattle.ea_steps.specs.Changes.{PlacedBlock, blocks, blocks_in, contents}
+use Rattle.ea_steps.specs.declared.placed.PlacedBlock.{PlacedBlock}
+use Rattle.ea_steps.specs.Changes.{blocks, blocks_in, contents}
 use Rattle.ea_steps.specs.Found.{block_there}
 use Rattle.ea_steps.proofs.SortedItems.{AreDifferent}
 

@@ -8,7 +8,9 @@ use Rattle.std.proofs.lemmas.Bool.{cases_Bool}
 use Rattle.std.proofs.lemmas.List.Sums.{fold-append}
 use Rattle.ea_steps.specs.Fronts.{after_group, after_open, after_step, closed_text, front_of}
 use Rattle.ea_steps.specs.Fronts.{goes_on, grown_if, is_joined, kept, kept_if, may_grow}
-use Rattle.ea_steps.specs.Groups.{Group, Joined, Apart, Looks, Tries, are_alike}
+use Rattle.ea_steps.specs.declared.joined.Joined.{Joined}
+use Rattle.ea_steps.specs.declared.joined.Joined.TheVariants.{Apart, Looks, Tries}
+use Rattle.ea_steps.specs.Groups.{Group, are_alike}
 use Rattle.ea_steps.specs.Groups.{groups, grouped_if, joined, only, share_line}
 use Rattle.ea_steps.specs.Groups.{with_step}
 use Rattle.ea_machine.specs.Setup.{Setup}

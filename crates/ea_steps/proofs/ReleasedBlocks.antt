@@ -31,7 +31,8 @@ use Rattle.ea_sound.specs.Turns.{answered}
 use Rattle.ea_sound.proofs.KeptPlaces.{keeps-places}
 use Rattle.ea_sound.proofs.KeyedWeights.{times}
 use Rattle.ea_sound.proofs.TurnLists.{run-snoc}
-use Rattle.ea_steps.specs.Changes.{PlacedBlock, blocks, by_name, contents, has_block, is_released}
+use Rattle.ea_steps.specs.declared.placed.PlacedBlock.{PlacedBlock}
+use Rattle.ea_steps.specs.Changes.{blocks, by_name, contents, has_block, is_released}
 use Rattle.ea_steps.specs.Changes.{is_renamed, released}
 use Rattle.ea_steps.specs.Found.{block_there, found_before, gone_blocks, is_gone, is_there}
 use Rattle.ea_steps.specs.Found.{placed_at, spot_of}

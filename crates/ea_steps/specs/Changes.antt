@@ -4,7 +4,6 @@
 use Rattle.std.specs.Prelude.{ℕ, ◌/◌, Bool, false, not, ◌&&◌, nat_lt, ◌==◌, List, drop, filter}
 use Rattle.std.specs.Prelude.{◌++◌, [], flat_map, length, map}
 use Rattle.std.specs.List.{list_any}
-use Rattle.ea_model.specs.declared.carriers.BlockAt.{BlockAt}
 use Rattle.ea_model.specs.declared.entries.Entry.TheVariants as entry
 use Rattle.ea_model.specs.declared.units.TheConstants.{PAGE_UNITS}
 use Rattle.ea_model.specs.Content.{Content}
@@ -14,13 +13,10 @@ use Rattle.ea_machine.specs.Outcome.{present}
 use Rattle.ea_machine.specs.Setup.{Setup}
 use Rattle.ea_machine.specs.State.{State}
 use Rattle.ea_machine.specs.Stops.{less, stop_at}
+use Rattle.ea_steps.specs.declared.placed.PlacedBlock.{PlacedBlock}
 use Rattle.ea_steps.specs.Steps.{Step}
 
--- a block with the number of its carrier
-pub record PlacedBlock : Type 0 where
-  pub carrier : ℕ
-  pub block : BlockAt
-
+-- the blocks of a carrier
 abbrev pub blocks_in : Content → List PlacedBlock
 blocks_in x = map (λ b. record { carrier = x.number; block = b }) x.blocks
 

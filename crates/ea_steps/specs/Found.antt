@@ -12,7 +12,8 @@ use Rattle.ea_machine.specs.declared.nodes.Named.{Named}
 use Rattle.ea_machine.specs.Outcome.{present}
 use Rattle.ea_machine.specs.Setup.{Setup}
 use Rattle.ea_machine.specs.State.{State}
-use Rattle.ea_steps.specs.Changes.{PlacedBlock, by_name, is_renamed}
+use Rattle.ea_steps.specs.declared.placed.PlacedBlock.{PlacedBlock}
+use Rattle.ea_steps.specs.Changes.{by_name, is_renamed}
 use Rattle.ea_steps.specs.Steps.{Step}
 use Rattle.ea_steps.specs.Touched.{as_list, touched_in}
 

@@ -2,7 +2,9 @@
 -- left open while it may grow.
 use Rattle.std.specs.Prelude.{ℕ, Bool, true, false, ◌&&◌, ◌==◌, List, [], ◌++◌, Option, None, Some}
 use Rattle.std.specs.Prelude.{fold}
-use Rattle.ea_steps.specs.Groups.{Group, Joined, Apart, Looks, Tries, are_alike, joined, only}
+use Rattle.ea_steps.specs.declared.joined.Joined.{Joined}
+use Rattle.ea_steps.specs.declared.joined.Joined.TheVariants.{Apart, Looks, Tries}
+use Rattle.ea_steps.specs.Groups.{Group, are_alike, joined, only}
 use Rattle.ea_machine.specs.Setup.{Setup}
 use Rattle.ea_steps.specs.Steps.{Step}
 use Rattle.ea_steps.specs.Text.{group_text, is_quiet}

@@ -10,16 +10,9 @@ use Rattle.ea_machine.specs.declared.stages.Stage.TheVariants.{Fetching, Creatin
 use Rattle.ea_machine.specs.declared.stages.Stage.TheVariants.{Ended, Ready}
 use Rattle.ea_machine.specs.Lists.{counts}
 use Rattle.ea_machine.specs.Rows.{Answer, Done, Head, Rests, Passes, Saw, Won, Lost, Home, Got}
+use Rattle.ea_steps.specs.declared.joined.Joined.{Joined}
+use Rattle.ea_steps.specs.declared.joined.Joined.TheVariants.{Apart, Looks, Tries}
 use Rattle.ea_steps.specs.Steps.{Step, answer_of}
-
--- which steps one line may tell
-pub data Joined : Type 0 where
-  -- none but itself
-  Apart : Joined
-  -- looks of the last part of a search whose words don't count: it looks at that carrier
-  Looks : (number : ℕ) → Joined
-  -- tries to take that name, which isn't given
-  Tries : (name : ℕ) → Joined
 
 -- by whether the word of the carrier counts
 abbrev pub looks_unless : Bool → ℕ → Joined

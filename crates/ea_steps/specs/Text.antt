@@ -12,8 +12,11 @@ use Rattle.ea_machine.specs.Outcome.{outcome_of}
 use Rattle.ea_machine.specs.Setup.{Setup, setup_of}
 use Rattle.ea_report.specs.Text.{carrier_text, entry_text, kind_text, line, totals_text}
 use Rattle.ea_sound.specs.Turns.{is_ended}
-use Rattle.ea_steps.specs.Changes.{PlacedBlock, gone, logged, made, pages_of, released, shrunk}
-use Rattle.ea_steps.specs.Groups.{Group, Joined, Looks, Tries, Apart, groups, joined}
+use Rattle.ea_steps.specs.declared.placed.PlacedBlock.{PlacedBlock}
+use Rattle.ea_steps.specs.Changes.{gone, logged, made, pages_of, released, shrunk}
+use Rattle.ea_steps.specs.declared.joined.Joined.{Joined}
+use Rattle.ea_steps.specs.declared.joined.Joined.TheVariants.{Apart, Looks, Tries}
+use Rattle.ea_steps.specs.Groups.{Group, groups, joined}
 use Rattle.ea_steps.specs.Rows.{Words, row_words}
 use Rattle.ea_steps.specs.Steps.{Step, answer_of, row_of, steps_of}
 
