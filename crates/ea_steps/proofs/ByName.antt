@@ -1,5 +1,5 @@
--- Blocks by rising name, as they are found of a step in a reached state: what code sorts is what the
--- step released.
+-- Blocks by rising name, as they are found of a step in a reached state: what code sorts is what
+-- the step released.
 use Rattle.std.proofs.Common.{ap, ◌≡◌, ◌≢◌, ◌⊎◌, ℕ, List, [], ◌∷◌, sym, ◌∙◌, subst, inl, inr}
 use Rattle.std.specs.Prelude.{All, AllPairs, filter}
 use Rattle.std.specs.List.{AllByRecursion}

@@ -86,7 +86,10 @@ same-block n place y some =
     (same-name n place y some)
     ∙ ap (λ m. record { carrier = m; block = record { name = n; offset = o; size = s } })
     (same-carrier n place y some)
-    ∙ ap (λ m. record { carrier = place.carrier; block = record { name = n; offset = m; size = s } })
+    ∙ ap (λ m. record {
+      carrier = place.carrier;
+      block = record { name = n; offset = m; size = s };
+    })
     (same-offset n place y some)
     ∙ ap (λ m. record {
       carrier = place.carrier;
@@ -192,7 +195,8 @@ module _ (e : Setup) (w : State) (k : Kept e w) where
           arith,
           printed-all e w k f,
           sum-item number_of f p.carrier x (contents e w) there,
-          sum-item offset_of (λ d. one_if (is_block b.name place x.number d)) p.offset b x.blocks at,
+          sum-item offset_of (λ d. one_if (is_block b.name place x.number d)) p.offset b x.blocks
+              at,
           counted x.number (item_at-key number_of p.carrier x (contents e w) there)
               (item_at-key offset_of p.offset b x.blocks at),
         )

@@ -216,7 +216,8 @@ module _ (e : Setup) (w : State) (me : ℕ) (is : is_scheduler e me ≡ true) (r
 
   abbrev Remains : Stage Content → Type 0
   Remains st = stay a + out w.shared ≤ stay (onward e me (next st))
-      + out (effect me (wants_at a.next st) w.shared) + weighs (touched_at (migration e) st (heard st))
+      + out (effect me (wants_at a.next st) w.shared)
+      + weighs (touched_at (migration e) st (heard st))
 
   -- the operation itself follows where the scheduler is ready
   abbrev ready_lost : Stage Content → List Op → List Named → ℕ
