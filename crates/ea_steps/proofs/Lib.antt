@@ -18,3 +18,5 @@ pub mod StepCarriers
 pub mod CarrierSums
 pub mod GoneCarriers
 pub mod ChangedCarriers
+pub mod KnownBirths
+pub mod ShownCarriers

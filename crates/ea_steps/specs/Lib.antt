@@ -1,5 +1,6 @@
 pub mod Changes
 pub mod Found
+pub mod FoundCarriers
 pub mod Fronts
 pub mod Groups
 pub mod Rows
