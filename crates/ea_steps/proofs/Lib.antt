@@ -1,4 +1,6 @@
 pub mod StepLists
+pub mod Quiet
+pub mod LookSteps
 pub mod Fronting
 pub mod Prefixed
 pub mod Rising
