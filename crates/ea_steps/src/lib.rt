@@ -2,6 +2,7 @@
 //! and the command that prints them.
 #![tactic(auto)]
 
+mod counts;
 mod joined;
 mod placed;
 
