@@ -28,10 +28,10 @@ abbrev pub KnowsBirths : Setup → State → Type 0
 KnowsBirths e w = (n b : ℕ) → (w.actors (owner_of n)).instance.created < b
     → sum_everywhere e (of_birth n b) w ≡ 0
 
-not-same : (n m b d : ℕ) → b ≢ d → one_if ((n == m) && (b == d)) ≡ 0
+pub not-same : (n m b d : ℕ) → b ≢ d → one_if ((n == m) && (b == d)) ≡ 0
 not-same n m b d other = grind (arith, other)
 
-not-number : (n m b d : ℕ) → n ≢ m → one_if ((n == m) && (b == d)) ≡ 0
+pub not-number : (n m b d : ℕ) → n ≢ m → one_if ((n == m) && (b == d)) ≡ 0
 not-number n m b d other = grind (arith, other)
 
 module _ (e : Setup) (w : State) (rule : Rule e w) (me : ℕ) (knows : KnowsBirths e w) where

@@ -22,3 +22,5 @@ pub mod GoneCarriers
 pub mod ChangedCarriers
 pub mod KnownBirths
 pub mod ShownCarriers
+pub mod SteppedCarriers
+pub mod ToldCarriers

@@ -1,16 +1,17 @@
 -- The carriers that are there, by rising number: what is found under a number, and how carriers are
 -- counted.
-use Rattle.std.proofs.Common.{◌≡◌, ◌⊎◌, ℕ, zero, suc, ◌+◌, ◌<◌, ◌≤◌, List, [], ◌∷◌, ◌++◌, Bool}
+use Rattle.std.proofs.Common.{◌≡◌, ◌≢◌, ◌⊎◌, ℕ, zero, suc, ◌+◌, ◌<◌, ◌≤◌, List, [], ◌∷◌, ◌++◌, Bool}
 use Rattle.std.proofs.Common.{true, false, map, refl, sym, ap, ◌∙◌, subst, inl, inr, arith}
-use Rattle.std.specs.Prelude.{Option, None, Some, filter, flat_map, option_map}
+use Rattle.std.specs.Prelude.{Option, None, Some, filter, flat_map, option_map, ◌==◌, ◌&&◌, ◌||◌}
 use Rattle.std.specs.Prelude.{if◌then◌else◌}
-use Rattle.std.specs.List.{AllByRecursion, range_with_len}
+use Rattle.std.specs.List.{AllByRecursion, list_any, range_with_len}
+use Rattle.std.specs.Option.{option_map_or}
 use Rattle.std.proofs.lemmas.Bool.{cases_eq}
 use Rattle.std.proofs.lemmas.List.{map-append}
 use Rattle.ea_model.specs.declared.carriers.Standing.{Standing}
 use Rattle.ea_model.specs.declared.carriers.Standing.TheVariants as standing
 use Rattle.ea_model.specs.Content.{Content}
-use Rattle.ea_model.specs.Instance.{content_of}
+use Rattle.ea_model.specs.Instance.{content_of, owner_of}
 use Rattle.ea_model.specs.Keyed.{item_at}
 use Rattle.ea_model.proofs.Rising.{item_at-key, item_at-map, item_here, item_past}
 use Rattle.ea_laws.specs.Kept.{number_of}
@@ -20,11 +21,19 @@ use Rattle.ea_machine.specs.Owners.{CarrierAt, Absent, Busy, Employed, Pooled, R
 use Rattle.ea_machine.specs.Setup.{Setup, greatest_number}
 use Rattle.ea_machine.specs.State.{State}
 use Rattle.ea_machine.specs.Statistics.{employed_multis, employed_singles}
+use Rattle.ea_machine.specs.Sums.{one_if, sum_over}
+use Rattle.ea_sound.specs.Contents.{sum_everywhere}
+use Rattle.ea_sound.specs.Places.{has_number}
 use Rattle.ea_sound.specs.Rule.{Kept}
+use Rattle.ea_sound.proofs.KeyedWeights.{counts, counts-key, item-hit, sum-item}
 use Rattle.ea_sound.proofs.PresentContents.{settling-number}
+use Rattle.ea_sound.proofs.Printed.{printed-all}
+use Rattle.ea_sound.proofs.SoundOwners.{number-once}
 use Rattle.ea_sound.proofs.SoundPlaces.{away-on, sound-place}
-use Rattle.ea_steps.specs.Changes.{contents}
+use Rattle.ea_steps.specs.Changes.{contents, has_carrier, same_carrier}
 use Rattle.ea_steps.specs.FoundCarriers.{carrier_there}
+use Rattle.ea_steps.proofs.CarrierSums.{numbers-own, of_birth, of_units}
+use Rattle.ea_steps.proofs.CarrierWeights.{own_times}
 use Rattle.ea_steps.proofs.Rising.{Has, IsRising, all-has}
 
 all-weaker : {A : Type 0} (P Q : A → Type 0) → ((x : A) → P x → Q x) → (xs : List A)
@@ -175,3 +184,120 @@ module _ (e : Setup) (w : State) (k : Kept e w) where
 
   pub shown-there : (n : ℕ) → shown n ≡ option_map (λ (p : Present). p.content) (carrier_there e w n)
   shown-there n = item_at-map number_of (λ (p : Present). p.content) n (present e w)
+
+  -- a carrier counts once, as what is found under its number
+  only-number : (n : ℕ) (f : Content → ℕ) → ((x : Content) → x.number ≢ n → f x ≡ 0)
+      → 1 ≤ sum_everywhere e f w → (x : Content) × (shown n ≡ Some x) × (1 ≤ f x)
+  only-number n f only some = item-hit number_of f n (contents e w) only
+      (omega (arith, printed-all e w k (has_number n), number-once e w k n))
+      (omega (arith, printed-all e w k f, some))
+
+  counts-shown : (n : ℕ) (x : Content) (f : Content → ℕ) → shown n ≡ Some x → f x ≡ 1
+      → 1 ≤ sum_everywhere e f w
+  counts-shown n x f there one = omega (
+    arith,
+    printed-all e w k f,
+    sum-item number_of f n x (contents e w) there,
+    one,
+  )
+
+  pub shown-number : (n : ℕ) (x : Content) → shown n ≡ Some x → x.number ≡ n
+  shown-number n x there = item_at-key number_of n x (contents e w) there
+
+  -- by its birth
+  pub shown-birth : (n b : ℕ) → 1 ≤ sum_everywhere e (of_birth n b) w
+      → (x : Content) × (shown n ≡ Some x) × (x.birth ≡ b)
+  shown-birth n b some =
+      let (x, there, one) = only-number n (of_birth n b) other some in
+      (x, there, by x.number x.birth one) where
+        other : (x : Content) → x.number ≢ n → of_birth n b x ≡ 0
+        other x ne = none x.number x.birth ne where
+          none : (m d : ℕ) → m ≢ n → one_if ((m == n) && (d == b)) ≡ 0
+          none m d ne = grind (arith, ne)
+
+        by : (m d : ℕ) → 1 ≤ one_if ((m == n) && (d == b)) → d ≡ b
+        by m d one = grind (arith, one)
+
+  pub birth-shown : (n : ℕ) (x : Content) → shown n ≡ Some x
+      → 1 ≤ sum_everywhere e (of_birth n x.birth) w
+  birth-shown n x there = counts-shown n x (of_birth n x.birth) there
+      (by x.number x.birth (shown-number n x there)) where
+        by : (m d : ℕ) → m ≡ n → one_if ((m == n) && (d == d)) ≡ 1
+        by m d same = grind (arith, same)
+
+  -- and by its units
+  pub shown-units : (n b u : ℕ) → 1 ≤ sum_everywhere e (of_units n b u) w
+      → (x : Content) × (shown n ≡ Some x) × (x.units ≡ u)
+  shown-units n b u some =
+      let (x, there, one) = only-number n (of_units n b u) other some in
+      (x, there, by ((x.number == n) && (x.birth == b)) x.units one) where
+        other : (x : Content) → x.number ≢ n → of_units n b u x ≡ 0
+        other x ne = none x.number (x.birth == b) (x.units == u) ne where
+          none : (m : ℕ) (s t : Bool) → m ≢ n → one_if (((m == n) && s) && t) ≡ 0
+          none m s t ne = grind (arith, ne)
+
+        by : (s : Bool) (v : ℕ) → 1 ≤ one_if (s && (v == u)) → v ≡ u
+        by s v one = grind (arith, one)
+
+  pub units-shown : (n : ℕ) (x : Content) → shown n ≡ Some x
+      → 1 ≤ sum_everywhere e (of_units n x.birth x.units) w
+  units-shown n x there = counts-shown n x (of_units n x.birth x.units) there
+      (by x.number x.birth x.units (shown-number n x there)) where
+        by : (m d v : ℕ) → m ≡ n → one_if (((m == n) && (d == d)) && (v == v)) ≡ 1
+        by m d v same = grind (arith, same)
+
+  -- its owner owns it
+  pub owned-shown : (n : ℕ) → 1 ≤ own_times n (w.actors (owner_of n)).instance
+      → (x : Content) × (shown n ≡ Some x)
+  owned-shown n some =
+      let (x, there, one) = only-number n (has_number n) (λ x other. none x.number other)
+      (omega (arith, numbers-own e w k n, some)) in
+      (x, there) where
+        none : (m : ℕ) → m ≢ n → one_if (m == n) ≡ 0
+        none m other = grind (arith, other)
+
+  pub shown-owned : (n : ℕ) (x : Content) → shown n ≡ Some x
+      → 1 ≤ own_times n (w.actors (owner_of n)).instance
+  shown-owned n x there = omega (
+    arith,
+    numbers-own e w k n,
+    counts-shown n x (has_number n) there (counts-key number_of n x (shown-number n x there)),
+  )
+
+-- whether one of a rising list passes a test that only those of a number can pass
+module _ (n : ℕ) (test : Content → Bool)
+    (only : (x : Content) → x.number ≢ n → test x ≡ false) where
+  none-any : (xs : List Content) → AllByRecursion (λ (y : Content). n < y.number) xs
+      → list_any test xs ≡ false
+  none-any [] all = refl
+  none-any (x ∷ xs) all =
+      ap (λ b. b || list_any test xs) (only x (λ q. omega (arith, q, all.0)))
+      ∙ none-any xs all.1
+
+  pub any-found : (xs : List Content) → IsRising number_of xs
+      → list_any test xs ≡ option_map_or test (content_of xs n) false
+  any-found [] rises = refl
+  any-found (x ∷ xs) rises = elim (cases_eq x.number n) [
+    | inl same ↦
+        ap (λ b. test x || b)
+        (none-any xs (subst (λ m. AllByRecursion (λ (y : Content). m < y.number) xs) same rises.0))
+        ∙ alone (test x)
+        ∙ sym (ap (λ o. option_map_or test o false) (item_here number_of n x xs same))
+    | inr other ↦
+        ap (λ b. b || list_any test xs) (only x other)
+        ∙ any-found xs rises.1
+        ∙ sym (ap (λ o. option_map_or test o false) (item_past number_of n x xs other))
+  ] where
+    alone : (b : Bool) → (b || false) ≡ b
+    alone true = refl
+    alone false = refl
+
+module _ (e : Setup) (w : State) (k : Kept e w) where
+  -- whether a carrier is there
+  pub has-carrier : (x : Content) → has_carrier e w x
+      ≡ option_map_or (same_carrier x) (content_of (contents e w) x.number) false
+  has-carrier x =
+      any-found x.number (same_carrier x) (λ y other. by y.number (x.birth == y.birth) other)
+      (contents e w) (contents-rise e w k) where
+        by : (m : ℕ) (t : Bool) → m ≢ x.number → ((x.number == m) && t) ≡ false
+        by m t other = grind (arith, other)
