@@ -1,6 +1,7 @@
 pub mod StepLists
 pub mod Quiet
 pub mod LookSteps
+pub mod Takings
 pub mod Fronting
 pub mod Prefixed
 pub mod Rising

@@ -31,9 +31,10 @@ use Rattle.ea_sound.specs.Turns.{is_ended}
 use Rattle.ea_sound.proofs.Completing.{replicate-others}
 use Rattle.ea_sound.proofs.KeyedWeights.{times}
 use Rattle.ea_steps.specs.Changes.{contents, stopped}
-use Rattle.ea_steps.specs.Groups.{Looks, are_alike, joined, joined_at, looks_unless}
+use Rattle.ea_steps.specs.Groups.{are_alike, joined, joined_at, looks_unless}
 use Rattle.ea_steps.specs.Steps.{step_of}
 use Rattle.ea_steps.specs.Text.{changes_text, is_quiet, log_text}
+use Rattle.ea_steps.specs.declared.joined.Joined.TheVariants.{Looks}
 use Rattle.ea_steps.proofs.Fronting.{AreInRow, last_of}
 use Rattle.ea_steps.proofs.Quiet.{quiet-changes, same-itself}
 use Rattle.ea_steps.proofs.StepLists.{GoesOn, row}

@@ -12,12 +12,13 @@ use Rattle.ea_machine.specs.Setup.{Setup}
 use Rattle.ea_machine.specs.Sums.{one_if}
 use Rattle.ea_sound.specs.Turns.{is_ended}
 use Rattle.ea_sound.proofs.KeyedWeights.{times}
-use Rattle.ea_steps.specs.Changes.{PlacedBlock, added, blocks, blocks_in, contents, gone, has_carrier}
+use Rattle.ea_steps.specs.Changes.{added, blocks, blocks_in, contents, gone, has_carrier}
 use Rattle.ea_steps.specs.Changes.{by_name, is_released, is_renamed, is_shrunk, logged, made, pages_of}
 use Rattle.ea_steps.specs.Changes.{released, same_carrier, shrunk, stopped}
 use Rattle.ea_steps.specs.Steps.{Step}
 use Rattle.ea_steps.specs.Text.{changes_text, ended_text, gone_text, log_text, made_text}
 use Rattle.ea_steps.specs.Text.{released_text, shrunk_text}
+use Rattle.ea_steps.specs.declared.placed.PlacedBlock.{PlacedBlock}
 use Rattle.ea_steps.proofs.Rising.{Has}
 
 module _ {A : Type 0} (p : A → Bool) where

@@ -5,5 +5,6 @@ pub mod Fronts
 pub mod Groups
 pub mod Rows
 pub mod Steps
+pub mod Taking
 pub mod Text
 pub mod Touched
