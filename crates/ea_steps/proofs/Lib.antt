@@ -25,3 +25,5 @@ pub mod KnownBirths
 pub mod ShownCarriers
 pub mod SteppedCarriers
 pub mod ToldCarriers
+pub mod ShrunkCarriers
+pub mod ByNumber

@@ -40,7 +40,7 @@ use Rattle.ea_steps.proofs.ShownCarriers.{shown-number, shown-there}
 use Rattle.ea_steps.proofs.SteppedCarriers.{MayGo, MayShrink, Steps, after, before, is, k, kv, s}
 use Rattle.ea_steps.proofs.SteppedCarriers.{steps}
 
-no-member : {A : Type 0} (ys : List A) → ((x : A) → Has x ys → ⊥) → ys ≡ []
+pub no-member : {A : Type 0} (ys : List A) → ((x : A) → Has x ys → ⊥) → ys ≡ []
 no-member [] none = refl
 no-member (y ∷ ys) none = absurd (none y (inl refl))
 
@@ -59,7 +59,7 @@ in-has n (m ∷ ms) some = elim (cases_eq m n) [
   none m other = grind (arith, other)
 
 -- carriers are one where their numbers and births are
-one-carrier : (x y : Content) → x.number ≡ y.number → x.birth ≡ y.birth
+pub one-carrier : (x y : Content) → x.number ≡ y.number → x.birth ≡ y.birth
     → same_carrier x y ≡ true
 one-carrier x y number birth = by x.number y.number x.birth y.birth number birth where
   by : (n m b d : ℕ) → n ≡ m → b ≡ d → ((n == m) && (b == d)) ≡ true
@@ -70,32 +70,32 @@ two-carriers x y other = by (x.number == y.number) x.birth y.birth other where
   by : (t : Bool) (b d : ℕ) → b ≢ d → (t && (b == d)) ≡ false
   by t b d other = grind (arith, other)
 
-carrier-birth : (x y : Content) → same_carrier x y ≡ true → x.birth ≡ y.birth
+pub carrier-birth : (x y : Content) → same_carrier x y ≡ true → x.birth ≡ y.birth
 carrier-birth x y same = by (x.number == y.number) x.birth y.birth same where
   by : (t : Bool) (b d : ℕ) → (t && (b == d)) ≡ true → b ≡ d
   by t b d same = grind (arith, same)
 
 module _ (e : Setup) (w : State) (rule : Rule e w) (knows : KnowsBirths e w) (me count own : ℕ)
     (goes : (w.actors me).stage ≢ Ended) where
-  abbrev v : State
+  abbrev pub v : State
   v = step e w me
 
-  abbrev kept : Kept e w
+  abbrev pub kept : Kept e w
   kept = k e w rule knows me count own goes
 
-  abbrev kept_after : Kept e v
+  abbrev pub kept_after : Kept e v
   kept_after = kv e w rule knows me count own goes
 
-  abbrev this : Step
+  abbrev pub this : Step
   this = s e w rule knows me count own goes
 
-  abbrev was : ℕ → Option Content
+  abbrev pub was : ℕ → Option Content
   was n = before e w rule knows me count own goes n
 
-  abbrev now : ℕ → Option Content
+  abbrev pub now : ℕ → Option Content
   now n = after e w rule knows me count own goes n
 
-  abbrev StepsBy : Option ℕ → Type 0
+  abbrev pub StepsBy : Option ℕ → Type 0
   StepsBy m = Steps e w rule knows me count own goes m
 
   -- whether a carrier of the one state is there in the other
@@ -107,23 +107,23 @@ module _ (e : Setup) (w : State) (rule : Rule e w) (knows : KnowsBirths e w) (me
       ≡ option_map_or (same_carrier x) (now x.number) false
   after-has x = has-carrier e v kept_after x
 
-  has-before : (x : Content) → Has x (contents e w) → was x.number ≡ Some x
+  pub has-before : (x : Content) → Has x (contents e w) → was x.number ≡ Some x
   has-before x has = has-found number_of x (contents e w) (contents-rise e w kept) has
 
-  has-after : (x : Content) → Has x (contents e v) → now x.number ≡ Some x
+  pub has-after : (x : Content) → Has x (contents e v) → now x.number ≡ Some x
   has-after x has = has-found number_of x (contents e v) (contents-rise e v kept_after) has
 
   -- one that stays is no other
-  same-before : (n : ℕ) (x z : Content) → was n ≡ Some x → was n ≡ Some z → x ≡ z
+  pub same-before : (n : ℕ) (x z : Content) → was n ≡ Some x → was n ≡ Some z → x ≡ z
   same-before n x z p q = let both : Some x ≡ Some z = sym p ∙ q in cc
 
-  same-after : (n : ℕ) (y z : Content) → now n ≡ Some y → now n ≡ Some z → y ≡ z
+  pub same-after : (n : ℕ) (y z : Content) → now n ≡ Some y → now n ≡ Some z → y ≡ z
   same-after n y z p q = let both : Some y ≡ Some z = sym p ∙ q in cc
 
-  number-before : (n : ℕ) (x : Content) → was n ≡ Some x → x.number ≡ n
+  pub number-before : (n : ℕ) (x : Content) → was n ≡ Some x → x.number ≡ n
   number-before n x there = shown-number e w kept n x there
 
-  number-after : (n : ℕ) (y : Content) → now n ≡ Some y → y.number ≡ n
+  pub number-after : (n : ℕ) (y : Content) → now n ≡ Some y → y.number ≡ n
   number-after n y there = shown-number e v kept_after n y there
 
   -- by what is found under the number
@@ -242,12 +242,12 @@ module _ (e : Setup) (w : State) (rule : Rule e w) (knows : KnowsBirths e w) (me
 
   -- the carriers that went
   module _ (m : Option ℕ) (t : StepsBy m) where
-    is-number : (n : ℕ) → m ≡ Some n → is_made this n ≡ true
+    pub is-number : (n : ℕ) → m ≡ Some n → is_made this n ≡ true
     is-number n q = ap (λ o. option_map_or (λ i. i == n) o false) (t.number ∙ q) ∙ itself n where
       itself : (n : ℕ) → (n == n) ≡ true
       itself n = grind arith
 
-    number-is : (n : ℕ) → is_made this n ≡ true → m ≡ Some n
+    pub number-is : (n : ℕ) → is_made this n ≡ true → m ≡ Some n
     number-is n q =
         by m (sym (ap (λ o. option_map_or (λ i. i == n) o false) t.number) ∙ q) where
           by : (o : Option ℕ) → option_map_or (λ i. i == n) o false ≡ true → o ≡ Some n
@@ -295,12 +295,12 @@ module _ (e : Setup) (w : State) (rule : Rule e w) (knows : KnowsBirths e w) (me
     or-right true b q = refl
     or-right false b q = q
 
-    both-true : (a b : Bool) → a ≡ true → b ≡ true → (a && b) ≡ true
+    pub both-true : (a b : Bool) → a ≡ true → b ≡ true → (a && b) ≡ true
     both-true true true p q = refl
     both-true true false p q = absurd cc
     both-true false b p q = absurd cc
 
-    and-true : (a b : Bool) → (a && b) ≡ true → (a ≡ true) × (b ≡ true)
+    pub and-true : (a b : Bool) → (a && b) ≡ true → (a ≡ true) × (b ≡ true)
     and-true true b q = (refl, q)
     and-true false b q = absurd cc
 
