@@ -1,8 +1,8 @@
 -- Carriers by rising number, as they are found of a step in a reached state: those that code finds
 -- are those that went, were made or have fewer pages; and what the step adds to logs.
-use Rattle.std.proofs.Common.{◌≡◌, ◌≢◌, ◌⊎◌, ℕ, List, [], ◌∷◌, ◌++◌, map, true, refl, sym, ap, ◌∙◌}
+use Rattle.std.proofs.Common.{◌≡◌, ◌≢◌, ◌⊎◌, ℕ, List, [], ◌∷◌, ◌++◌, map, true, sym, ap, ◌∙◌}
 use Rattle.std.proofs.Common.{subst, inl, inr}
-use Rattle.std.specs.Prelude.{Option, Some, drop, length, option_map}
+use Rattle.std.specs.Prelude.{Some, drop, length}
 use Rattle.std.proofs.Math.Seq.{drop-append_seam, drop-length}
 use Rattle.std.proofs.lemmas.List.{append-nil}
 use Rattle.ea_model.specs.declared.settings.Config.{Config}
@@ -14,7 +14,6 @@ use Rattle.ea_model.specs.Trace.{IsValidTrace}
 use Rattle.ea_machine.specs.declared.stages.Stage.TheVariants.{Ended}
 use Rattle.ea_machine.specs.Actor.{Actor}
 use Rattle.ea_machine.specs.Machine.{IsReached, run, step}
-use Rattle.ea_machine.specs.Outcome.{Present}
 use Rattle.ea_machine.specs.Setup.{Setup, setup_of}
 use Rattle.ea_machine.specs.State.{State}
 use Rattle.ea_sound.specs.Present.{Rule}
@@ -23,7 +22,7 @@ use Rattle.ea_sound.proofs.Chronicled.{enters-one}
 use Rattle.ea_sound.proofs.RuleRuns.{rule-run}
 use Rattle.ea_sound.proofs.TurnLists.{run-snoc, step-other}
 use Rattle.ea_steps.specs.Changes.{added, gone, made, shrunk}
-use Rattle.ea_steps.specs.FoundCarriers.{carrier_there, goes_away, made_carriers, made_number, makes}
+use Rattle.ea_steps.specs.FoundCarriers.{goes_away, made_carriers, made_number, makes}
 use Rattle.ea_steps.specs.FoundCarriers.{shrunk_carriers}
 use Rattle.ea_steps.specs.Steps.{Step, step_of}
 use Rattle.ea_steps.specs.Touched.{may_go_in}

@@ -1,8 +1,8 @@
 -- A carrier's identity, counted: its number and its birth, and with its units. A row leaves what
--- all contents weigh, with those that come into the hand; and an instance owns a carrier as often as
--- there are contents of its number.
-use Rattle.std.proofs.Common.{◌≡◌, ◌≢◌, ℕ, ◌+◌, ◌*◌, ◌<◌, ◌≤◌, List, [], ◌∷◌, Bool, true, false, refl, sym}
-use Rattle.std.proofs.Common.{ap, ◌∙◌, inl, inr, arith}
+-- all contents weigh, with those that come into the hand; and an instance owns a carrier as often
+-- as there are contents of its number.
+use Rattle.std.proofs.Common.{◌≡◌, ◌≢◌, ℕ, ◌+◌, ◌*◌, ◌<◌, ◌≤◌, List, [], ◌∷◌, Bool, true, false}
+use Rattle.std.proofs.Common.{refl, sym, ap, ◌∙◌, inl, inr, arith}
 use Rattle.std.specs.Prelude.{Option, None, Some, ◌==◌, ◌&&◌, not}
 use Rattle.std.proofs.lemmas.Bool.{cases_lt}
 use Rattle.ea_model.specs.declared.carriers.BlockAt.{BlockAt}

@@ -1,5 +1,5 @@
--- Which carriers a step may take away, make smaller or make, by where its scheduler is: what the work
--- of the step does to carriers, in these words.
+-- Which carriers a step may take away or leave with fewer pages, by where its scheduler is: what
+-- the work of the step does to carriers, in these words.
 use Rattle.std.proofs.Common.{◌≡◌, ◌≢◌, ℕ, ◌≤◌, List, [], ◌∷◌, ◌++◌, true, false, refl, sym}
 use Rattle.std.proofs.Common.{ap, ◌∙◌, subst, arith}
 use Rattle.std.specs.Prelude.{Option, None, Some, flat_map, ◌==◌}

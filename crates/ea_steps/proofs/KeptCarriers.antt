@@ -1,5 +1,5 @@
--- What the local work of a scheduler does to carriers, function by function: their contents weigh no
--- more, and an own carrier stays, unless it may be cleared.
+-- What the local work of a scheduler does to carriers, function by function: their contents weigh
+-- no more, and an own carrier stays, unless it may be cleared.
 use Rattle.std.proofs.Common.{◌≡◌, ℕ, ◌+◌, ◌≤◌, List, [], ◌∷◌, Bool, true, false}
 use Rattle.std.proofs.Common.{refl, sym, ◌∙◌, subst, arith}
 use Rattle.std.specs.Prelude.{Option, None, Some, ◌==◌}
@@ -28,7 +28,8 @@ use Rattle.ea_machine.specs.declared.tasks.Why.{Why}
 use Rattle.ea_machine.specs.declared.tasks.Why.TheVariants.{Walk, For}
 use Rattle.ea_machine.specs.Actor.{Actor}
 use Rattle.ea_machine.specs.Releases.{Turned, abandoned_if, after_release, dismissed, employed_by}
-use Rattle.ea_machine.specs.Releases.{first_gone, forwarded, leaving_by, lightened, looked, looked_at}
+use Rattle.ea_machine.specs.Releases.{first_gone, forwarded, leaving_by, lightened, looked}
+use Rattle.ea_machine.specs.Releases.{looked_at}
 use Rattle.ea_machine.specs.Releases.{owned_by, pooled_by, release_here, route_of, routed}
 use Rattle.ea_machine.specs.Releases.{settled, struck, tried, turned}
 use Rattle.ea_machine.specs.Rows.{Answer, Done, Head, Rests, Passes, Saw, Won, Lost, Home, Got}

@@ -16,7 +16,8 @@ use Rattle.ea_model.specs.declared.reallocation.Decision.TheVariants.{Stay, Shri
 use Rattle.ea_model.specs.declared.reallocation.Decision.TheVariants.{ShrinkCarrier, Move}
 use Rattle.ea_model.specs.Content.{Content, is_vacant}
 use Rattle.ea_model.specs.Entries.{Entry}
-use Rattle.ea_model.specs.Instance.{Instance, chosen_spot, created_content, created_single, creating}
+use Rattle.ea_model.specs.Instance.{Instance, chosen_spot, created_content, created_single}
+use Rattle.ea_model.specs.Instance.{creating}
 use Rattle.ea_model.specs.Instance.{creating_single, decision_at, is_alone, owner_of, place_at}
 use Rattle.ea_model.specs.Instance.{placing_at, plan as plan_for, planned_own, resized_to}
 use Rattle.ea_model.specs.Instance.{single_place}
@@ -46,7 +47,7 @@ use Rattle.ea_machine.specs.Rows.{Answer, Done, Head, Rests, Passes, Saw, Won, L
 use Rattle.ea_machine.specs.Searches.{Search, fits, goes_on, looked_in, new_search, passed}
 use Rattle.ea_machine.specs.Searches.{with_counted}
 use Rattle.ea_machine.specs.Setup.{Setup, greatest_number, migration}
-use Rattle.ea_machine.specs.Tasks.{carried, let_go, task_over}
+use Rattle.ea_machine.specs.Tasks.{carried, let_go, logged, task_over}
 use Rattle.ea_machine.specs.Releases.{route_of}
 use Rattle.ea_sound.specs.Blocks.{employed_sum}
 use Rattle.ea_sound.proofs.EmployedWeights.{employed_sum-creating, employed_sum-creating_single}
@@ -99,7 +100,8 @@ module _ (e : Setup) (me : ℕ) (Going : Named → Type 0) where
       pub place : Place
       pub told : TellsPlace log b place
       pub within : (place.carrier ≡ plan.number) ⊎ (is_vacant new ≡ true)
-      pub keeps : Keeps (λ c. c ≡ place.carrier) Never OldGone with_new nothing b.instance (hand_of b)
+      pub keeps : Keeps (λ c. c ≡ place.carrier) Never OldGone with_new nothing b.instance
+          (hand_of b)
       pub busy : b.stage ≢ Ready
 
   -- where the new block stands
@@ -113,10 +115,19 @@ module _ (e : Setup) (me : ℕ) (Going : Named → Type 0) where
       more : (x : Entry) (c : Actor) → c.log ≡ b.log → c.log ++ x ∷ [] ≡ b.log ++ x ∷ []
       more x c same = ap (λ l. l ++ x ∷ []) same
 
+      moved : (c : Actor) → c.log ≡ b.log
+          → TellsPlace b.log (logged (entry.ReallocMoved h.name n q) c) q
+      moved c same = inl (
+        entry.ReallocMoved h.name n q,
+        more (entry.ReallocMoved h.name n q) c same,
+        refl,
+        refl,
+      )
+
       over : (g : Gone) (c : Actor) → c.log ≡ b.log
           → TellsPlace b.log (task_over (Moving h.name n q) g c) q
-      over Open c same = inl (entry.ReallocMoved h.name n q, more (entry.ReallocMoved h.name n q) c same, refl, refl)
-      over Here c same = inl (entry.ReallocMoved h.name n q, more (entry.ReallocMoved h.name n q) c same, refl, refl)
+      over Open c same = moved c same
+      over Here c same = moved c same
       over (Queued to) c same =
           inl (
             entry.ReallocQueued h.name n q to,
@@ -264,8 +275,9 @@ module _ (e : Setup) (me : ℕ) (Going : Named → Type 0) where
     -- nothing is done to carriers
     idle : (b c : Actor) → c.instance ≡ b.instance → hand_of c ≡ nothing → c.stage ≢ Ready
         → Goes b.instance nothing b.log c
-    idle b c same empty busy = Same (subst (λ i. Keeps Any Cut Cleared b.instance nothing i (hand_of c))
-        (sym same) (subst (λ h. Keeps Any Cut Cleared b.instance nothing b.instance h) (sym empty)
+    idle b c same empty busy =
+        Same (subst (λ i. Keeps Any Cut Cleared b.instance nothing i (hand_of c)) (sym same)
+        (subst (λ h. Keeps Any Cut Cleared b.instance nothing b.instance h) (sym empty)
         (keeps-itself Any Cut Cleared b.instance nothing))) busy
 
     may-go : (old : Option Named) → OldGoing old → OldMayGo Any Cut Cleared old

@@ -21,11 +21,11 @@ use Rattle.ea_machine.specs.Owners.{CarrierAt, Absent, Busy, Employed, Pooled, R
 use Rattle.ea_machine.specs.Setup.{Setup, greatest_number}
 use Rattle.ea_machine.specs.State.{State}
 use Rattle.ea_machine.specs.Statistics.{employed_multis, employed_singles}
-use Rattle.ea_machine.specs.Sums.{one_if, sum_over}
+use Rattle.ea_machine.specs.Sums.{one_if}
 use Rattle.ea_sound.specs.Contents.{sum_everywhere}
 use Rattle.ea_sound.specs.Places.{has_number}
 use Rattle.ea_sound.specs.Rule.{Kept}
-use Rattle.ea_sound.proofs.KeyedWeights.{counts, counts-key, item-hit, sum-item}
+use Rattle.ea_sound.proofs.KeyedWeights.{counts-key, item-hit, sum-item}
 use Rattle.ea_sound.proofs.PresentContents.{settling-number}
 use Rattle.ea_sound.proofs.Printed.{printed-all}
 use Rattle.ea_sound.proofs.SoundOwners.{number-once}
@@ -182,7 +182,8 @@ module _ (e : Setup) (w : State) (k : Kept e w) where
   abbrev pub shown : ℕ → Option Content
   shown n = content_of (contents e w) n
 
-  pub shown-there : (n : ℕ) → shown n ≡ option_map (λ (p : Present). p.content) (carrier_there e w n)
+  pub shown-there : (n : ℕ)
+      → shown n ≡ option_map (λ (p : Present). p.content) (carrier_there e w n)
   shown-there n = item_at-map number_of (λ (p : Present). p.content) n (present e w)
 
   -- a carrier counts once, as what is found under its number

@@ -31,7 +31,8 @@ use Rattle.ea_machine.specs.Walks.{after_route, begun, with_passed, worked_off}
 use Rattle.ea_sound.proofs.BeginTurns.{IsInBegin, walks}
 use Rattle.ea_sound.proofs.WorkNames.{carried-busy}
 use Rattle.ea_steps.proofs.KeptCarriers.{AllMayGo, Comes, Hand, MayGo, RouteMayGo}
-use Rattle.ea_steps.proofs.KeptCarriers.{carried-keeps, fetched_by, hand_of, keeps-disowned, keeps-itself}
+use Rattle.ea_steps.proofs.KeptCarriers.{carried-keeps, fetched_by, hand_of, keeps-disowned}
+use Rattle.ea_steps.proofs.KeptCarriers.{keeps-itself}
 use Rattle.ea_steps.proofs.KeptCarriers.{keeps-less, keeps-on, left_on, nothing}
 use Rattle.ea_steps.proofs.KeptCarriers.{turned-keeps, worked-keeps}
 use Rattle.ea_steps.proofs.MadeCarriers.{Any, Goes, Grows, OldGoing, OpGoing, Same, More}
@@ -80,7 +81,8 @@ module _ (e : Setup) (me : ℕ) (Going : Named → Type 0) (Cut Cleared : ℕ �
   pub data Does (a : Actor) (r : Answer) (st : Stage Content) (b : Actor) : Type 1 where
     Unmade : (stays : From a st r b) → Does a r st b
     Begun : (off : migration e ≡ false) (ready : (after_row e me a r st).stage ≡ Ready)
-        (held : (after_row e me a r st).held ≡ a.held) (before : From a st r (after_row e me a r st)) (plan : CarrierPlan)
+        (held : (after_row e me a r st).held ≡ a.held)
+        (before : From a st r (after_row e me a r st)) (plan : CarrierPlan)
         (grows : Grows e me Going (after_row e me a r st).instance a.log plan b) → Does a r st b
     Created : (ask : Ask) (plan : CarrierPlan) (at : st ≡ Creating ask plan)
         (grows : Grows e me Going a.instance a.log plan b) → Does a r st b
@@ -217,7 +219,8 @@ module _ (e : Setup) (me : ℕ) (Going : Named → Type 0) (Cut Cleared : ℕ �
     -- an operation that releases a block
     task-does : (z : Route Content) (task : Task) (g : Gone)
         → RouteMayGo Any Cut Cleared e me z
-        → Does a r (Routed z (For task) g) (onward e me (after_row e me a r (Routed z (For task) g)))
+        → Does a r (Routed z (For task) g)
+        (onward e me (after_row e me a r (Routed z (For task) g)))
     task-does z task g m =
         let t = turned e me z g a r in
         stays-does (Routed z (For task) g)

@@ -1,5 +1,5 @@
 -- The carriers that are there before a step and after it, number by number.
-use Rattle.std.proofs.Common.{◌≡◌, ◌≢◌, ◌⊎◌, ℕ, ◌+◌, ◌<◌, ◌≤◌, List, [], ◌∷◌, ◌++◌, Bool, true, false}
+use Rattle.std.proofs.Common.{◌≡◌, ◌≢◌, ◌⊎◌, ℕ, ◌+◌, ◌≤◌, List, [], ◌∷◌, ◌++◌, true, false}
 use Rattle.std.proofs.Common.{map, refl, sym, ap, ◌∙◌, subst, inl, inr, arith}
 use Rattle.std.specs.Prelude.{Option, None, Some, drop, flat_map, is_some, length, not, ◌==◌, ◌&&◌}
 use Rattle.std.proofs.Math.Seq.{drop-append_seam, drop-length}
@@ -10,7 +10,6 @@ use Rattle.ea_model.specs.Content.{Content}
 use Rattle.ea_model.specs.Entries.{Entry}
 use Rattle.ea_model.specs.Instance.{content_of, owner_of}
 use Rattle.ea_machine.specs.declared.nodes.Node.{Node}
-use Rattle.ea_machine.specs.declared.stages.Route.{Route}
 use Rattle.ea_machine.specs.declared.stages.Route.TheVariants.{Looking, Trying, Settling}
 use Rattle.ea_machine.specs.declared.stages.Route.TheVariants.{Abandoning, Sending, Clearing}
 use Rattle.ea_machine.specs.declared.stages.Route.TheVariants.{Pushing, Linking}
@@ -19,9 +18,8 @@ use Rattle.ea_machine.specs.declared.stages.Stage.TheVariants.{Begin, Routed, Co
 use Rattle.ea_machine.specs.declared.stages.Stage.TheVariants.{Fetching, Creating, Giving, Taking}
 use Rattle.ea_machine.specs.declared.stages.Stage.TheVariants.{Ended, Ready}
 use Rattle.ea_machine.specs.Actor.{Actor}
-use Rattle.ea_machine.specs.Machine.{begins, step, wants, wants_at}
-use Rattle.ea_machine.specs.Rows.{Create}
-use Rattle.ea_machine.specs.Setup.{Setup, is_scheduler, migration}
+use Rattle.ea_machine.specs.Machine.{begins, step, wants_at}
+use Rattle.ea_machine.specs.Setup.{Setup, is_scheduler}
 use Rattle.ea_machine.specs.State.{State}
 use Rattle.ea_machine.specs.Sums.{one_if}
 use Rattle.ea_sound.specs.Contents.{sum_everywhere}
@@ -31,17 +29,16 @@ use Rattle.ea_sound.proofs.Global.{working-scheduler}
 use Rattle.ea_sound.proofs.OffStages.{IsOffStage, is-off}
 use Rattle.ea_sound.proofs.PresentStep.{step-rule}
 use Rattle.ea_sound.proofs.TurnLists.{step-other}
-use Rattle.ea_steps.specs.Changes.{added, contents}
+use Rattle.ea_steps.specs.Changes.{contents}
 use Rattle.ea_steps.specs.FoundCarriers.{created_after, created_before, first_number, made_if}
 use Rattle.ea_steps.specs.FoundCarriers.{made_number, makes}
-use Rattle.ea_steps.specs.Steps.{Step, row_of, step_of}
+use Rattle.ea_steps.specs.Steps.{Step, step_of}
 use Rattle.ea_steps.specs.Touched.{created_by, may_come, moved_at, placed, placed_by}
-use Rattle.ea_steps.proofs.CarrierSums.{of_birth, of_units}
+use Rattle.ea_steps.proofs.CarrierSums.{of_birth}
 use Rattle.ea_steps.proofs.CarrierWeights.{own_times}
 use Rattle.ea_steps.proofs.ChangedCarriers.{Makes, MakesNone, changes}
 use Rattle.ea_steps.proofs.GoneCarriers.{Cleared, Cut}
 use Rattle.ea_steps.proofs.KnownBirths.{KnowsBirths, not-number, not-same}
-use Rattle.ea_steps.proofs.MadeCarriers.{TellsPlace}
 use Rattle.ea_steps.proofs.ShownCarriers.{birth-shown, owned-shown, shown-birth, shown-owned}
 use Rattle.ea_steps.proofs.ShownCarriers.{shown-units, units-shown}
 

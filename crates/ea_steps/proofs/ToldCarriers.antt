@@ -1,43 +1,36 @@
 -- The carriers that went, were made or have fewer pages by a step, as they are found by number.
-use Rattle.std.proofs.Common.{◌≡◌, ◌≢◌, ◌⊎◌, ℕ, ◌+◌, ◌<◌, ◌≤◌, List, [], ◌∷◌, ◌++◌, Bool, true, false}
+use Rattle.std.proofs.Common.{◌≡◌, ◌≢◌, ◌⊎◌, ℕ, ◌<◌, List, [], ◌∷◌, Bool, true, false}
 use Rattle.std.proofs.Common.{map, refl, sym, ap, ◌∙◌, subst, inl, inr, arith}
-use Rattle.std.specs.Prelude.{Option, None, Some, filter, flat_map, is_none, is_some, not, option_map}
-use Rattle.std.specs.Prelude.{nat_lt, ◌==◌, ◌&&◌, ◌||◌}
-use Rattle.std.specs.List.{AllByRecursion, list_any}
+use Rattle.std.specs.Prelude.{Option, None, Some, filter, is_none, is_some, not, option_map}
+use Rattle.std.specs.Prelude.{◌==◌, ◌&&◌, ◌||◌}
+use Rattle.std.specs.List.{AllByRecursion}
 use Rattle.std.specs.Option.{option_map_or}
 use Rattle.std.proofs.lemmas.Bool.{cases_eq, cases_lt, true≢false}
-use Rattle.ea_model.specs.declared.operations.Op.{Op}
-use Rattle.ea_model.specs.declared.operations.Op.TheVariants as op
 use Rattle.ea_model.specs.Content.{Content}
 use Rattle.ea_model.specs.Instance.{content_of}
 use Rattle.ea_laws.specs.Kept.{number_of}
-use Rattle.ea_machine.specs.declared.nodes.Named.{Named}
 use Rattle.ea_machine.specs.declared.stages.Stage.TheVariants.{Ended}
-use Rattle.ea_machine.specs.Actor.{Actor}
 use Rattle.ea_machine.specs.Lists.{times}
 use Rattle.ea_machine.specs.Machine.{step}
-use Rattle.ea_machine.specs.Nodes.{named_at}
 use Rattle.ea_machine.specs.Outcome.{Present}
 use Rattle.ea_machine.specs.Setup.{Setup}
 use Rattle.ea_machine.specs.State.{State}
 use Rattle.ea_machine.specs.Sums.{one_if}
 use Rattle.ea_sound.specs.Present.{Rule}
 use Rattle.ea_sound.specs.Rule.{Kept}
-use Rattle.ea_steps.specs.Changes.{contents, gone, has_carrier, is_shrunk, made, pages_of}
-use Rattle.ea_steps.specs.Changes.{same_carrier, shrunk}
+use Rattle.ea_steps.specs.Changes.{contents, gone, has_carrier, made}
+use Rattle.ea_steps.specs.Changes.{same_carrier}
 use Rattle.ea_steps.specs.FoundCarriers.{carrier_there, content_if, goes_away, is_made, made_at}
-use Rattle.ea_steps.specs.FoundCarriers.{made_carriers, made_number, makes, shrunk_carriers, shrunk_if}
-use Rattle.ea_steps.specs.FoundCarriers.{shrunk_of}
+use Rattle.ea_steps.specs.FoundCarriers.{made_carriers, made_number, makes}
 use Rattle.ea_steps.specs.Steps.{Step}
-use Rattle.ea_steps.specs.Touched.{as_list, carriers_of, first_freed, may_go_in, may_shrink}
-use Rattle.ea_steps.specs.Touched.{may_shrink_in, of_operation}
+use Rattle.ea_steps.specs.Touched.{may_go_in}
 use Rattle.ea_steps.proofs.GoneCarriers.{IsIn}
 use Rattle.ea_steps.proofs.KnownBirths.{KnowsBirths}
 use Rattle.ea_steps.proofs.Rising.{Has, IsRising, rising-same}
-use Rattle.ea_steps.proofs.ShownCarriers.{any-found, contents-rise, filter-has, filter-rises}
+use Rattle.ea_steps.proofs.ShownCarriers.{contents-rise, filter-has, filter-rises}
 use Rattle.ea_steps.proofs.ShownCarriers.{found-has, has-carrier, has-filter, has-found}
 use Rattle.ea_steps.proofs.ShownCarriers.{shown-number, shown-there}
-use Rattle.ea_steps.proofs.SteppedCarriers.{MayGo, MayShrink, Steps, after, before, is, k, kv, s}
+use Rattle.ea_steps.proofs.SteppedCarriers.{Steps, after, before, k, kv, s}
 use Rattle.ea_steps.proofs.SteppedCarriers.{steps}
 
 pub no-member : {A : Type 0} (ys : List A) → ((x : A) → Has x ys → ⊥) → ys ≡ []
@@ -334,7 +327,8 @@ module _ (e : Setup) (w : State) (rule : Rule e w) (knows : KnowsBirths e w) (me
       gone-may = elim (cases_lt 0 (times x.number (may_go_in e this))) [
         | inl some ↦ omega (arith, some)
         | inr never ↦
-            let (other, (y, q)) = t.stays x.number x (λ some. omega (arith, some, never)) was_there in
+            let (other, (y, q)) = t.stays x.number x (λ some. omega (arith, some, never))
+            was_there in
             let (z, found, birth) = t.kept x.number y other q in
             absurd (true≢false (sym (is-there_after x y q
             (sym birth ∙ ap (λ (c : Content). c.birth) (same-before x.number z x found was_there)))
