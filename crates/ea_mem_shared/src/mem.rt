@@ -1,9 +1,13 @@
 //! What is shared, in plain memory.
-ghost use Rattle.std.specs.Prelude.{◌≡◌, ℕ, ◌+◌, ◌*◌, ◌<◌, ◌≤◌, ◌&&◌, true, length, IfOk};
+ghost use Rattle.std.specs.Prelude.{◌≡◌, ℕ, ◌+◌, ◌*◌, ◌<◌, ◌≤◌, ◌&&◌, true, length, IfOk, Some};
 ghost use Rattle.ea_model.specs.declared.units.TheConstants.{MAX_SCHEDULERS, NUMBERS};
 ghost use Rattle.ea_model.specs.Instance.{owner_of};
 ghost use Rattle.ea_machine.specs.Owners.{Absent, employed_if};
+ghost use Rattle.ea_machine.specs.Alike.{IsNode};
 ghost use Rattle.ea_machine.specs.Machine.{start};
+ghost use Rattle.ea_machine.specs.Nodes.{first_node};
+ghost use Rattle.ea_machine.specs.Table.{link_answer};
+ghost use Rattle.ea_shared.specs.Links.{told_by};
 ghost use Rattle.ea_machine.specs.Setup.{migration, setup_of};
 ghost use Rattle.ea_shared.specs.Carriers.{is_first_upto, main_upto};
 ghost use Rattle.ea_mem_shared.specs.Memory.{shared_of};
@@ -118,6 +122,23 @@ impl<C: Carried + Drop> MemShared<C> {
             migrates,
             places,
         })
+    }
+
+    /// The newest node of the queue of `me`; None exactly where the queue is empty.
+    pub fn newest(&self, me: u32) -> Option<Node>
+        requires { me ≤ self.now.schedulers }
+        ensures { result ≡ first_node ((shared_of self.now).queues me) }
+    {
+        self.queues.newest(me)
+    }
+
+    /// What the walk would learn of the node that is the first of what is left of it.
+    pub fn link_of(&self, node: Node) -> Link
+        requires { IsNode self.now.schedulers self.now.greatest node }
+        ensures { (i : ℕ) → first_node ((shared_of self.now).rests i) ≡ Some node
+            → told_by result ≡ link_answer ((shared_of self.now).rests i) }
+    {
+        self.queues.link_of(node)
     }
 }
 

@@ -10,5 +10,7 @@ mod outcome;
 mod units;
 
 pub use extents::extent_of;
+pub use finding::find;
+pub use found::Found;
 pub use layouts::layouts_of;
 pub use outcome::outcome_of;

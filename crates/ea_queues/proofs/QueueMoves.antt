@@ -5,9 +5,9 @@ use Rattle.std.proofs.Common.{if◌then◌else◌, List, [], ◌∷◌, Option, 
 use Rattle.std.proofs.Common.{replicate, refl, sym, ap, subst, ◌∙◌, inl, inr, arith}
 use Rattle.std.specs.Prelude.{Contains, ◌==◌}
 use Rattle.std.proofs.Math.Path.{fun_ext}
-use Rattle.std.proofs.lemmas.Bool.{cases_eq, cond-true, cond-false}
-use Rattle.std.proofs.lemmas.List.{get_or-set_other, get_or-set_same, get_or_read, length-replicate}
-use Rattle.std.proofs.lemmas.List.{length-set}
+use Rattle.std.proofs.lemmas.Bool.{cases_eq, cases_lt, cond-true, cond-false}
+use Rattle.std.proofs.lemmas.List.{get_or-set_other, get_or-set_same, get_or_past, get_or_read}
+use Rattle.std.proofs.lemmas.List.{length-replicate, length-set}
 use Rattle.ea_model.specs.declared.units.TheConstants.{NUMBERS}
 use Rattle.ea_machine.specs.declared.nodes.Node.{Node}
 use Rattle.ea_machine.specs.Nodes.{Mark, first_node, link_in, pushed}
@@ -422,6 +422,17 @@ module _ (heads rests : List (Option Node)) (names carriers : List Cell) where
         linked-stands s stands names' carriers' node (record { older = x.older; linked = true })
         puts same_names same_carriers is to le
         (ap (λ (y : Cell). record { older = y.older; linked = true }) e) there
+
+    -- whoever has a next node is one of them
+    pub walks-within : (me : ℕ) (node : Node) → first_node (marks_of s.rests me) ≡ Some node
+        → me ≤ s.schedulers
+    walks-within me node next = elim (cases_lt me (length s.rests)) [
+      | inl lt ↦ omega (arith, lt, walks-count s stands)
+      | inr past ↦
+          let none : None ≡ Some node =
+          sym (ap first_node (get_or_past s.rests me [] past)) ∙ next in
+          absurd cc
+    ]
 
     -- the next node of a walk isn't linked
     module _ (me : ℕ) (node : Node) (x : Cell) (le : me ≤ s.schedulers)

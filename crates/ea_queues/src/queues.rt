@@ -1,5 +1,5 @@
 //! The queues, and what is left of walks.
-ghost use Rattle.std.specs.Prelude.{◌≡◌, ◌⊎◌, ◌+◌, ◌≤◌, [], ◌∷◌, Some, None, IfOk, Contains};
+ghost use Rattle.std.specs.Prelude.{◌≡◌, ℕ, ◌⊎◌, ◌+◌, ◌≤◌, [], ◌∷◌, Some, None, IfOk, Contains};
 ghost use Rattle.ea_machine.specs.Nodes.{first_node, link_in, pushed};
 ghost use Rattle.ea_machine.specs.Rows.{Passes};
 ghost use Rattle.ea_machine.specs.Shared.{put};
@@ -145,5 +145,23 @@ impl Queues {
                 ..cell
             },
         );
+    }
+
+    /// The newest node of the queue of `me`; None exactly where the queue is empty.
+    pub fn newest(&self, me: u32) -> Option<Node>
+        requires { me ≤ self.now.schedulers }
+        ensures { result ≡ first_node (marks_of self.now.queues me) }
+    {
+        self.heads[me as usize]
+    }
+
+    /// What the walk would learn of the node that is the first of what is left of it.
+    pub fn link_of(&self, node: Node) -> Link
+        requires { IsNode self.now.schedulers self.now.greatest node }
+        ensures { (i : ℕ) → first_node (marks_of self.now.rests i) ≡ Some node
+            → told_by result ≡ link_answer (marks_of self.now.rests i) }
+    {
+        let Cell { older, linked } = self.cells.at(node);
+        if linked { passed(older) } else { Link::Rest }
     }
 }

@@ -7,7 +7,8 @@ use crate::lines::Word::{Number, Sum, Text};
 use crate::lines::put_line;
 use ea_model::{CarrierLine, Kind, List, OutOfMemory, Standing, Totals};
 
-fn kind_word(kind: Kind) -> &'static str
+/// The word of a kind of carriers.
+pub fn kind_word(kind: Kind) -> &'static str
     ensures { result.now ≡ kind_text kind }
 {
     match kind {

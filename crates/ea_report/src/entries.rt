@@ -1,6 +1,6 @@
 //! The lines of a log.
 ghost use Rattle.std.specs.Prelude.{◌≡◌, ◌+◌, ◌<◌, ◌≤◌, [], ◌∷◌, ◌++◌, All, OnOk, Some};
-ghost use Rattle.std.specs.Prelude.{codes, decimal, length, slice_get};
+ghost use Rattle.std.specs.Prelude.{codes, decimal, drop, length, slice_get};
 ghost use Rattle.ea_model.specs.declared.entries.Entry.TheVariants.{Info};
 ghost use Rattle.std.specs.List.{flat_map};
 ghost use Rattle.ea_model.specs.Entries.{IsWithin, told};
@@ -241,10 +241,19 @@ fn put_entries(
     Ok(())
 }
 
+/// Adds the lines of a log from its entry at `from` on, which it has, or at its end.
+pub fn put_log_from(text: &mut List<u8>, log: &Log, from: usize) -> Result<(), OutOfMemory>
+    requires { from ≤ length log.now.items }
+    ensures { OnOk result (text.new.items ≡ text.old.items
+        ++ flat_map entry_text (drop from log.now.items)) }
+{
+    let (entries, reports) = log.parts();
+    put_entries(text, &entries[from..], reports)
+}
+
 /// Adds the lines of a log.
 pub fn put_log(text: &mut List<u8>, log: &Log) -> Result<(), OutOfMemory>
     ensures { OnOk result (text.new.items ≡ text.old.items ++ flat_map entry_text log.now.items) }
 {
-    let (entries, reports) = log.parts();
-    put_entries(text, entries, reports)
+    put_log_from(text, log, 0)
 }

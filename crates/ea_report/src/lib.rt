@@ -11,6 +11,8 @@ mod tails;
 mod text;
 
 pub use beside::{print_beside, put_beside};
-pub use lines::{Word, put_line};
+pub use carriers::{kind_word, put_carriers, put_totals};
+pub use entries::put_log_from;
+pub use lines::{Word, put_line, put_words};
 pub use summary::print_summary;
 pub use text::{print, put_outcome};

@@ -23,6 +23,12 @@ pub fewer-left : (o : Option ℕ) (most k : ℕ) → AreLeft most o → k ≤ mo
 fewer-left None most k left fewer = tt
 fewer-left (Some n) most k left fewer = omega (arith, left, fewer)
 
+-- nor do those that a greater number leaves
+pub fewer-counted : (o : Option Shared) (last n at : ℕ) → last ≤ n → IfSome o (CountsNone last at)
+    → IfSome o (CountsNone n at)
+fewer-counted None last n at upto none = tt
+fewer-counted (Some s) last n at upto none = λ i low high. none i (omega (arith, upto, low)) high
+
 -- the search is to look at a number of the pool, comes down from it by that many, and has some left
 -- then; no word that it passes over counts
 module _ (s : Scheduler) (ask : Ask) (at left looked : ℕ)

@@ -1,6 +1,7 @@
 pub mod Passing
 pub mod Acting
 pub mod Steps
+pub mod Wants
 pub mod Prepared
 pub mod Creations
 pub mod Routes

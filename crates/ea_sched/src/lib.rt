@@ -18,7 +18,9 @@ mod state;
 mod step;
 mod stops;
 mod walks;
+mod wants;
 
 pub use migration::migrates;
 pub use passed::Passed;
 pub use state::Scheduler;
+pub use wants::Wanted;

@@ -1,5 +1,5 @@
 //! The nodes that a walk passed.
-ghost use Rattle.std.specs.Prelude.{◌≡◌, ◌+◌, ◌*◌, ◌<◌, [], ◌∷◌, IfOk, MatchOption, length};
+ghost use Rattle.std.specs.Prelude.{◌≡◌, ◌+◌, ◌*◌, ◌<◌, [], ◌∷◌, IfOk, MatchOption, length, reverse};
 ghost use Rattle.ea_model.specs.declared.units.TheConstants.{MAX_NAME, MAX_SCHEDULERS, NUMBERS};
 
 use ea_machine::Node;
@@ -52,5 +52,12 @@ impl Passed {
             (λ node. self.old.nodes ≡ node ∷ self.new.nodes) }
     {
         self.newest_first.pop()
+    }
+
+    /// The nodes, newest first.
+    pub fn newest_first(&self) -> &[Node]
+        ensures { reverse result.now ≡ self.now.nodes }
+    {
+        self.newest_first.as_slice()
     }
 }

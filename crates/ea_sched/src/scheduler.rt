@@ -117,7 +117,7 @@ impl<'t> Scheduler<'t> {
     }
 
     /// After how many steps it stopped; None exactly where it isn't stopped.
-    fn stopped_after(&self) -> Option<u32>
+    pub fn stopped_after(&self) -> Option<u32>
         ensures { stop_entries result ≡ stop_line self.now }
     {
         if self.stopped() {

@@ -9,7 +9,7 @@ ghost use Rattle.ea_machine.specs.Stops as stops;
 ghost use Rattle.ea_sched.specs.Acting.{IsSame, actor_of, ready_of, setup_for};
 ghost use Rattle.ea_sched.specs.Asking.{CanCount, HasMore, IsAsked};
 ghost use Rattle.ea_sched.specs.Creations.{PlansAt, PlansFrom};
-ghost use Rattle.ea_sched.specs.Looks.{AreLeft, IsQuiet};
+ghost use Rattle.ea_sched.specs.Looks.{AreLeft, IsQuiet, PassesLooks};
 ghost use Rattle.ea_sched.specs.Prepared.{planned_content};
 ghost use Rattle.ea_sched.specs.Steps.{DidRow, HasReached, StartsRow, Stepped, gone_on_by};
 ghost use Rattle.ea_search.specs.Looks.{standing};
@@ -170,6 +170,7 @@ impl<'t> Scheduler<'t> {
         ensures left { 1 ≤ result → AreLeft result self.old.left
             × (self.new.left ≡ stops.less self.old.left result) }
         ensures looks { 1 ≤ result → IsQuiet self.old self.new }
+        ensures uncounted { 1 ≤ result → PassesLooks result self.old (S.told shared.now) }
     {
         if most == 1 {
             return 0;

@@ -9,7 +9,7 @@ ghost use Rattle.ea_machine.specs.Stops as stops;
 ghost use Rattle.ea_sound.specs.Turns.{is_ended};
 ghost use Rattle.ea_sched.specs.Acting.{IsSame, actor_of, rests, setup_for};
 ghost use Rattle.ea_sched.specs.Creations.{PlansAt};
-ghost use Rattle.ea_sched.specs.Looks.{AreLeft, IsQuiet};
+ghost use Rattle.ea_sched.specs.Looks.{AreLeft, IsQuiet, PassesLooks};
 ghost use Rattle.ea_sched.specs.Steps.{DidRow, IsReady, ObservedRow, StartsRow, Stepped};
 
 use crate::state::Scheduler;
@@ -135,6 +135,8 @@ impl<'t> Scheduler<'t> {
         ensures left { IfOk result (λ taken. 1 ≤ taken → AreLeft taken self.old.left
             × (self.new.left ≡ stops.less self.old.left taken)) }
         ensures looks { IfOk result (λ taken. 1 < taken → IsQuiet self.old self.new) }
+        ensures uncounted { IfOk result (λ taken. 1 < taken → PassesLooks taken self.old
+            (S.told shared.old)) }
         ensures rests { IfOk result (λ taken. taken ≡ 0 → (rests self.old ≡ true)
             × (self.new ≡ self.old) × (shared.new ≡ shared.old)) }
         ensures fails { OnErr result (self.new.failed ≡ true) }

@@ -1,8 +1,8 @@
-use Rattle.std.proofs.Common.{◌∙◌, ap, arith, refl}
+use Rattle.std.proofs.Common.{◌-◌, ◌∙◌, ap, arith, refl}
 use Rattle.std.proofs.lemmas.Int.{clamps}
 use Rattle.ea_machine.specs.declared.stages.Stage.TheVariants.{Searching}
 use Rattle.ea_machine.specs.Searches.{left_in}
-use Rattle.ea_sched.proofs.LooksInRow.{fewer-left, looks-stepped}
+use Rattle.ea_sched.proofs.LooksInRow.{fewer-counted, fewer-left, looks-stepped}
 use Rattle.ea_sched.proofs.Seeking.{search-before, search-carrier, search-on}
 use Rattle.ea_sched.proofs.state.Scheduler.pass_looks.Goals as goal
 
@@ -41,6 +41,26 @@ returns-clause-left g c = λ some. (
   c.less-self.ensures,
 )
 
+pub returns-clause-uncounted : goal.returns-clause-uncounted
+returns-clause-uncounted g c = λ some.
+    let fewer = c.min-some.ensures in
+    let few = c.min-passed.ensures in
+    record {
+      ask = c.in-Searching.ask;
+      at = c.in-Searching.at;
+      left = c.in-Pool.left;
+      looked = c.in-Pool.looked;
+      stage = c.in-Searching.is
+          ∙ ap (λ p. Searching c.in-Searching.ask c.in-Searching.at p) c.in-Pool.is;
+      down = omega (arith, clamps, some, few);
+      fewer = omega (arith, clamps, some, fewer, few);
+      upto = (returns-clause-left g c some).0;
+      uncounted = fewer-counted _ c.last_counted-last.result
+          (c.in-Searching.at - c.min-passed.result) c.in-Searching.at
+          (omega (arith, clamps, some, few, c.max.ensures))
+          c.last_counted-last.ensures.uncounted;
+    }
+
 pub overflow_sub-at : goal.overflow_sub-at
 overflow_sub-at g c =
     let there = search-carrier c.args.self.now c.requires.starts.ready c.in-Searching.ask
@@ -56,6 +76,7 @@ returns-in_default g c = record {
   step = λ some. absurd (omega (arith, some));
   left = λ some. absurd (omega (arith, some));
   looks = λ some. absurd (omega (arith, some));
+  uncounted = λ some. absurd (omega (arith, some));
 }
 
 pub returns-in_default-part : goal.returns-in_default-part
@@ -67,6 +88,7 @@ returns-in_default-part g c = record {
   step = λ some. absurd (omega (arith, some));
   left = λ some. absurd (omega (arith, some));
   looks = λ some. absurd (omega (arith, some));
+  uncounted = λ some. absurd (omega (arith, some));
 }
 
 pub returns-then-passed-eq0-clause-none : goal.returns-then-passed-eq0-clause-none

@@ -27,6 +27,10 @@ returns-then-passed-gt0-clause-went g c = λ _.
     let goes = sym c.rests.ensures ∙ c.if-rests.false in
     (goes, stage-goes c.args.self.now.stage (goes-on c.args.self.now goes))
 
+pub returns-then-passed-gt0-clause-uncounted : goal.returns-then-passed-gt0-clause-uncounted
+returns-then-passed-gt0-clause-uncounted g c = λ some.
+    c.pass_looks-passed.ensures.uncounted (omega (arith, some))
+
 -- where it takes a step, as it stands
 pub advance-requires-clause-starts : goal.advance-requires-clause-starts
 advance-requires-clause-starts g c =

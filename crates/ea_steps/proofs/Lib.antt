@@ -1,0 +1,29 @@
+pub mod StepLists
+pub mod Quiet
+pub mod LookSteps
+pub mod Takings
+pub mod Fronting
+pub mod Prefixed
+pub mod Rising
+-- Which blocks a step can take away.
+pub mod SortedItems
+pub mod FoundBlocks
+pub mod WorkedNames
+pub mod TouchedNames
+pub mod TouchedBlocks
+pub mod ReleasedBlocks
+pub mod ByName
+-- Which carriers come, go and shrink by a step.
+pub mod CarrierWeights
+pub mod KeptCarriers
+pub mod MadeCarriers
+pub mod StepCarriers
+pub mod CarrierSums
+pub mod GoneCarriers
+pub mod ChangedCarriers
+pub mod KnownBirths
+pub mod ShownCarriers
+pub mod SteppedCarriers
+pub mod ToldCarriers
+pub mod ShrunkCarriers
+pub mod ByNumber

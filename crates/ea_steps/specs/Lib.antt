@@ -1,0 +1,10 @@
+pub mod Changes
+pub mod Found
+pub mod FoundCarriers
+pub mod Fronts
+pub mod Groups
+pub mod Rows
+pub mod Steps
+pub mod Taking
+pub mod Text
+pub mod Touched

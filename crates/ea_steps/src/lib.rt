@@ -1,0 +1,10 @@
+//! The steps of a run: each atomic step of the run of a trace with a schedule, with what it did;
+//! and the command that prints them.
+#![tactic(auto)]
+
+mod counts;
+mod joined;
+mod placed;
+
+pub use joined::Joined;
+pub use placed::PlacedBlock;
