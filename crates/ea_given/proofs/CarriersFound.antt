@@ -121,12 +121,16 @@ module _ (r : GivenRun) (c : Config) (t : Trace) (turns : List ℕ) (at : Stands
 
     -- it is the carrier of that number among all that are there
     pub carrier-found : (n : ℕ) → IsNumber e n → carrier_in e w n ≡ there_at n
-    carrier-found n number = ap (λ ps. item_at number_in ps n) all-there
-        ∙ found-one there_at (greatest_number e) there-numbered n (greatest_number e) 1 (omega arith)
-        (omega arith) number.0 (omega (arith, number.1))
+    carrier-found n number =
+        let most = greatest_number e in
+        ap (λ ps. item_at number_in ps n) all-there
+        ∙ found-one there_at most there-numbered n most 1 (omega arith) (omega arith) number.0
+        (omega (arith, number.1))
 
     -- no other number is that of a carrier
     pub carrier-none : (n : ℕ) → (IsNumber e n → ⊥) → carrier_in e w n ≡ None
-    carrier-none n other = ap (λ ps. item_at number_in ps n) all-there
-        ∙ found-none there_at (greatest_number e) there-numbered n (greatest_number e) 1 (omega arith)
-        (omega arith) (λ i some below is. other (subst (IsNumber e) is (some, omega (arith, below))))
+    carrier-none n other =
+        let most = greatest_number e in
+        ap (λ ps. item_at number_in ps n) all-there
+        ∙ found-none there_at most there-numbered n most 1 (omega arith) (omega arith)
+        (λ i some below is. other (subst (IsNumber e) is (some, omega (arith, below))))

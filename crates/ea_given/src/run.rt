@@ -163,7 +163,10 @@ impl<'t> GivenRun<'t> {
         ensures { Tells (λ setup turns. option_and_then (present_with number) result
             ≡ carrier_in setup (run_with_stops setup turns) number) self.now }
     {
-        if number == 0 || number > NUMBERS * self.config.schedulers {
+        if number == 0 {
+            return None;
+        }
+        if number > NUMBERS * self.config.schedulers {
             return None;
         }
         let migrates = migrates(self.config, self.trace);

@@ -6,21 +6,20 @@ use Rattle.ea_mem_shared.specs.Places.{place_at}
 use Rattle.ea_outcome.specs.Resting.{carrier_of}
 use Rattle.ea_given.proofs.CarriersFound.{carrier-found, carrier-none}
 use Rattle.ea_given.proofs.run.GivenRun.carrier.Goals as goal
-use Rattle.ea_given.proofs.run.GivenRun.carrier.Goals.{then-number-eq0-via-then-number-eq0}
-use Rattle.ea_given.proofs.run.GivenRun.carrier.Goals.{then-number-eq0-via-else-number-eq0+then-number-self}
 
 pub returns-then-number-eq0 : goal.returns-then-number-eq0
 returns-then-number-eq0 c = λ d t turns at.
-    sym (carrier-none c.args.self.now d t turns at c.args.number (λ is.
-    elim c.then-number-eq0.branch [
-      | then-number-eq0-via-then-number-eq0 w ↦ omega (arith, is.0, w.if-number-eq0.true)
-      | then-number-eq0-via-else-number-eq0+then-number-self w ↦ omega (
-        arith,
-        is.1,
-        w.if-number-self.true,
-        ap (λ (x : Config). NUMBERS * x.schedulers) at.config,
-      )
-    ]))
+    sym (carrier-none c.args.self.now d t turns at c.args.number
+    (λ is. omega (arith, is.0, c.if-number-eq0.true)))
+
+pub returns-then-number-self : goal.returns-then-number-self
+returns-then-number-self c = λ d t turns at.
+    sym (carrier-none c.args.self.now d t turns at c.args.number (λ is. omega (
+      arith,
+      is.1,
+      c.if-number-self.true,
+      ap (λ (x : Config). NUMBERS * x.schedulers) at.config,
+    )))
 
 pub returns : goal.returns
 returns c = λ d t turns at.
