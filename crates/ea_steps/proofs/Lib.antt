@@ -27,3 +27,4 @@ pub mod SteppedCarriers
 pub mod ToldCarriers
 pub mod ShrunkCarriers
 pub mod ByNumber
+pub mod TellingCarriers

@@ -1,3 +1,4 @@
+pub mod ChangedLines
 pub mod Changes
 pub mod Found
 pub mod FoundCarriers
