@@ -28,3 +28,5 @@ pub mod ToldCarriers
 pub mod ShrunkCarriers
 pub mod ByNumber
 pub mod TellingCarriers
+pub mod Printing
+pub mod Showing
