@@ -2,3 +2,8 @@ pub mod Running
 pub mod Ends
 pub mod GivenRuns
 pub mod NamesHeld
+pub mod Standing
+pub mod LooksTold
+pub mod AnswersRead
+pub mod AnswersTold
+pub mod CarriersFound

@@ -4,7 +4,6 @@ use Rattle.std.proofs.Common.{List, [], ◌∷◌, inl, inr, refl, sym, ap, subs
 use Rattle.std.specs.Prelude.{Bool, Option, None, Some, max, replicate, take, ◌||◌}
 use Rattle.std.proofs.lemmas.Bool.{cases_Bool}
 use Rattle.std.proofs.lemmas.Int.{clamps}
-use Rattle.std.proofs.lemmas.List.{replicate-append-replicate}
 use Rattle.ea_model.specs.declared.settings.Config.{Config}
 use Rattle.ea_model.specs.declared.trace.Trace.{Trace}
 use Rattle.ea_model.specs.Settings.{IsValidConfig}
@@ -113,7 +112,7 @@ steps-alike e me (suc k) v w same shares =
     steps-alike e me k (step e v me) (step e w me) one.0 one.1
 
 -- all turns are taken, if so many are left
-all-within : (o : Option ℕ) (k me : ℕ) → AreLeft k o → up_to o (replicate k me) ≡ replicate k me
+pub all-within : (o : Option ℕ) (k me : ℕ) → AreLeft k o → up_to o (replicate k me) ≡ replicate k me
 all-within None k me left = refl
 all-within (Some n) k me left = up_to-all n k me left
 

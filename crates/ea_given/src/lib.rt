@@ -2,7 +2,9 @@
 //! or to the end.
 #![tactic(auto)]
 
+mod heard;
 mod run;
 mod turns;
 
+pub use heard::Heard;
 pub use run::{GivenRun, run_given, run_layouts};

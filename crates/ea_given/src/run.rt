@@ -1,6 +1,9 @@
 //! The run of a trace by turns: one turn after another, or those of its schedule to its end.
 ghost use Rattle.std.specs.Prelude.{◌≡◌, ◌+◌, ◌<◌, ◌≤◌, true, [], ◌∷◌, IfOk, IfSome, OnOk, All};
-ghost use Rattle.std.specs.Prelude.{◌-◌, flat_map, get_or, is_some, length, map, replicate};
+ghost use Rattle.std.specs.Prelude.{◌-◌, flat_map, get_or, is_some, length, map, option_map};
+ghost use Rattle.std.specs.Prelude.{replicate};
+ghost use Rattle.std.specs.Option.{option_and_then};
+ghost use Rattle.ea_model.specs.Content.{named};
 ghost use Rattle.ea_model.specs.Outcome.{plain_outcome};
 ghost use Rattle.ea_model.specs.Settings.{IsValidConfig};
 ghost use Rattle.ea_model.specs.Trace.{IsScheduler, IsValidTrace, is_scheduled};
@@ -12,20 +15,26 @@ ghost use Rattle.ea_sound.specs.Over.{LiesOver};
 ghost use Rattle.ea_machine.specs.Outcome as machine;
 ghost use Rattle.ea_machine.specs.Setup.{setup_of};
 ghost use Rattle.ea_instance.specs.Layouts.{plain_layout};
+ghost use Rattle.ea_outcome.specs.Finding.{present_with};
 ghost use Rattle.ea_outcome.specs.Layouts.{layouts_in};
+ghost use Rattle.ea_given.specs.Between.{IsAt, LooksInRow, block_in, carrier_in, heard_after};
+ghost use Rattle.ea_given.specs.Between.{wanted_after};
 ghost use Rattle.ea_given.specs.Layouts.{layouts_of_run};
 ghost use Rattle.ea_given.specs.Running.{AllRanOut, AllStand, AllStandAt, AllTook};
 ghost use Rattle.ea_given.specs.Runs.{FitsSuperCarrier, HasCompleted, HasScheduler, HasTaken, IsRun};
 ghost use Rattle.ea_given.specs.Runs.{StandsAfter, StaysInOperation, Tells, done_after, ended_after};
 ghost use Rattle.ea_given.specs.Runs.{holds_after, spot_after};
 
+use crate::heard::{Heard, answer_of};
 use crate::turns::{run_out, step_some, take_turns};
 use ea_instance::Layout;
 use ea_mbc::Mbc;
 use ea_mem_shared::MemShared;
-use ea_model::{Config, Extent, List, OutOfMemory, Outcome, Spot, Trace, Turns};
-use ea_outcome::{extent_of, layouts_of, outcome_of};
-use ea_sched::Scheduler;
+use ea_model::{
+    Block, CarrierLine, Config, Extent, List, NUMBERS, OutOfMemory, Outcome, Spot, Trace, Turns,
+};
+use ea_outcome::{Found, extent_of, find, layouts_of, outcome_of};
+use ea_sched::{Scheduler, Wanted, migrates};
 use std::alloc::Global;
 
 /// All schedulers of the run of a trace, in order, before their first step.
@@ -120,6 +129,68 @@ impl<'t> GivenRun<'t> {
         &self.schedulers[me as usize - 1]
     }
 
+    /// The scheduler with that number, as it stands.
+    pub fn at(&self, me: u32) -> &Scheduler<'t>
+        requires stands { IsRun self.now }
+        requires scheduler { HasScheduler me self.now }
+        ensures { Tells (λ setup turns. IsAt setup turns me result.now) self.now }
+    {
+        self.scheduler(me)
+    }
+
+    /// The row that a scheduler wants next.
+    pub fn wants(&self, me: u32) -> Wanted
+        requires stands { IsRun self.now }
+        requires scheduler { HasScheduler me self.now }
+        ensures { Tells (λ setup turns. result ≡ wanted_after setup turns me) self.now }
+    {
+        self.scheduler(me).wants()
+    }
+
+    /// What the row will answer that a scheduler wants next, which is this one.
+    pub fn answer(&self, me: u32, wanted: Wanted) -> Heard
+        requires stands { IsRun self.now }
+        requires scheduler { HasScheduler me self.now }
+        requires wanted { Tells (λ setup turns. wanted ≡ wanted_after setup turns me) self.now }
+        ensures { Tells (λ setup turns. result ≡ heard_after setup turns me) self.now }
+    {
+        answer_of(&self.shared, me, wanted)
+    }
+
+    /// Where the carrier with that number is; None exactly where it isn't there.
+    fn carrier(&self, number: u32) -> Option<Found<'_>>
+        requires { IsRun self.now }
+        ensures { Tells (λ setup turns. option_and_then (present_with number) result
+            ≡ carrier_in setup (run_with_stops setup turns) number) self.now }
+    {
+        if number == 0 {
+            return None;
+        }
+        if number > NUMBERS * self.config.schedulers {
+            return None;
+        }
+        let migrates = migrates(self.config, self.trace);
+        find(&self.schedulers, &self.shared, migrates, number)
+    }
+
+    /// The line of the carrier with that number, wherever it is; None exactly where it isn't there.
+    pub fn line_of(&self, number: u32) -> Option<CarrierLine>
+        requires { IsRun self.now }
+        ensures { Tells (λ setup turns. result ≡ option_map machine.line_of
+            (carrier_in setup (run_with_stops setup turns) number)) self.now }
+    {
+        self.carrier(number)?.line(number)
+    }
+
+    /// The block that begins at the spot, wherever its carrier is; None exactly where none does.
+    pub fn block_at(&self, spot: Spot) -> Option<Block>
+        requires { IsRun self.now }
+        ensures { Tells (λ setup turns. result ≡ option_map named
+            (block_in setup (run_with_stops setup turns) spot)) self.now }
+    {
+        self.carrier(spot.carrier)?.block_at(spot)
+    }
+
     /// Takes one turn of a scheduler: a step, or nothing where that has ended or is stopped. It
     /// fails only where there is no memory.
     pub fn turn(&mut self, alloc: Global, me: u32) -> Result<(), OutOfMemory>
@@ -143,6 +214,8 @@ impl<'t> GivenRun<'t> {
         ensures taken { IfOk result (λ count. HasTaken (replicate count me) self.old self.new) }
         ensures looks { IfOk result (λ count.
             1 < count → StaysInOperation me (replicate count me) self.old) }
+        ensures passed { IfOk result (λ count.
+            1 < count → Tells (λ setup turns. LooksInRow setup turns me count) self.old) }
     {
         step_some(
             &mut self.schedulers[me as usize - 1],
@@ -171,7 +244,7 @@ impl<'t> GivenRun<'t> {
     }
 
     /// Where the block of a name begins, if a scheduler holds the name.
-    fn spot_of(&self, me: u32, name: u32) -> Option<Spot>
+    pub fn spot_of(&self, me: u32, name: u32) -> Option<Spot>
         requires stands { IsRun self.now }
         requires scheduler { HasScheduler me self.now }
         ensures { Tells (λ setup turns. result ≡ spot_after setup turns me name) self.now }

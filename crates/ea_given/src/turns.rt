@@ -1,6 +1,7 @@
 //! Turns of one scheduler on plain memory: some, that many, and all that are left.
 ghost use Rattle.std.specs.Prelude.{◌≡◌, ◌<◌, ◌≤◌, IfOk, OnOk};
-ghost use Rattle.ea_sched.specs.Looks.{IsQuiet};
+ghost use Rattle.ea_mem_shared.specs.Memory.{told_of};
+ghost use Rattle.ea_sched.specs.Looks.{IsQuiet, PassesLooks};
 ghost use Rattle.ea_given.specs.Running.{Stands, Took, TookAll};
 
 use ea_mbc::Mbc;
@@ -23,6 +24,8 @@ pub(crate) fn step_some(
     ensures took { IfOk result (λ count. Took count scheduler.old shared.old scheduler.new
         shared.new) }
     ensures quiet { IfOk result (λ count. 1 < count → IsQuiet scheduler.old scheduler.new) }
+    ensures uncounted { IfOk result (λ count. 1 < count → PassesLooks count scheduler.old
+        (told_of shared.old)) }
 {
     let taken = scheduler.step_upto(alloc, shared, most)?;
     Ok(taken.max(1))

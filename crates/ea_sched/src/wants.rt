@@ -14,7 +14,7 @@ use ea_machine::{Named, Node, OwnerWord, Part, Route, Stage, Task, Why};
 use ea_model::{Op, Place};
 
 /// A row of the table of atomic steps, with what is told of it: of a carrier that is stored its
-/// number and the owner word that it gets, and of a look whether it is of the last part of a search.
+/// number and the owner word that it gets; of a look, whether it is of the last part of a search.
 #[derive(Debug, Clone, Copy, PartialEq, Eq)]
 pub enum Wanted {
     /// Take the whole of its own queue, to walk it.

@@ -28,7 +28,7 @@ use Rattle.ea_steps.proofs.Rising.{Has, IsRising, rising-same}
 use Rattle.ea_steps.proofs.SortedItems.{AreDifferent, filter-different, filter-sorted}
 use Rattle.ea_steps.proofs.SortedItems.{permuted-sorted, sorted-rises}
 
-by-recursion : {A : Type 0} (P : A → Type 0) (xs : List A) → All P xs → AllByRecursion P xs
+pub by-recursion : {A : Type 0} (P : A → Type 0) (xs : List A) → All P xs → AllByRecursion P xs
 by-recursion P [] all = tt
 by-recursion P (x ∷ xs) all = (All-head P x xs all, by-recursion P xs (All-tail P x xs all))
 

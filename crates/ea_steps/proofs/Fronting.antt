@@ -201,7 +201,8 @@ module _ (setup : Setup) where
       → after_step setup (kept setup text g) r ≡ kept setup text (record g { last = r })
   row-next text g r e =
       let both = and-both (g.last.scheduler == r.scheduler) (are_alike (joined g.last) (joined r))
-      (is_quiet setup g.last) (is_joined (joined g.last)) e (joined-alike (joined g.last) (joined r)) in
+      (is_quiet setup g.last) (is_joined (joined g.last)) e
+      (joined-alike (joined g.last) (joined r)) in
       after-grown setup text g r both.0 true both.1
 
   row-kept : (text : List ℕ) (g : Group) (rs : List Step) → AreInRow g.last rs

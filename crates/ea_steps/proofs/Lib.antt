@@ -27,3 +27,6 @@ pub mod SteppedCarriers
 pub mod ToldCarriers
 pub mod ShrunkCarriers
 pub mod ByNumber
+pub mod TellingCarriers
+pub mod Printing
+pub mod Showing

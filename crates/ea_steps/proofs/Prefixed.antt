@@ -35,7 +35,8 @@ module _ (words : List ℕ) where
 
   -- after whole lines
   pub before-whole : (a b : List ℕ) → begins_after true a ≡ true
-      → with_each_line words true (a ++ b) ≡ with_each_line words true a ++ with_each_line words true b
+      → with_each_line words true (a ++ b)
+      ≡ with_each_line words true a ++ with_each_line words true b
   before-whole a b e = before-append true a b
       ∙ ap (λ begins. with_each_line words true a ++ with_each_line words begins b) e
 

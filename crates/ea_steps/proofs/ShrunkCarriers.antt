@@ -36,14 +36,14 @@ use Rattle.ea_steps.proofs.ToldCarriers.{number-before, number-is, one-carrier, 
 use Rattle.ea_steps.proofs.ToldCarriers.{same-before, this, v, was}
 
 -- an operation has one block at most
-abbrev IsFew : List ℕ → Type 0
+abbrev pub IsFew : List ℕ → Type 0
 IsFew ns = (ns ≡ []) ⊎ ((c : ℕ) × (ns ≡ c ∷ []))
 
 few-named : (o : Option Named) → IsFew (carriers_of (as_list o ++ []))
 few-named None = inl refl
 few-named (Some h) = inr (h.spot.carrier, refl)
 
-few-freed : (held : List Named) (ops : List Op)
+pub few-freed : (held : List Named) (ops : List Op)
     → IsFew (carriers_of (flat_map (λ n. as_list (named_at n held)) (first_freed ops)))
 few-freed held [] = inl refl
 few-freed held (op.Alloc n bytes ∷ ops) = inl refl

@@ -1,9 +1,12 @@
+pub mod ChangedLines
 pub mod Changes
 pub mod Found
 pub mod FoundCarriers
 pub mod Fronts
 pub mod Groups
+pub mod Printed
 pub mod Rows
+pub mod Shown
 pub mod Steps
 pub mod Taking
 pub mod Text

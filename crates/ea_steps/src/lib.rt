@@ -3,8 +3,12 @@
 #![tactic(auto)]
 
 mod counts;
+mod front;
+mod groups;
 mod joined;
+mod lines;
 mod placed;
+mod rows;
 
 pub use joined::Joined;
 pub use placed::PlacedBlock;

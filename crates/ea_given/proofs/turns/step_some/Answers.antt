@@ -1,5 +1,7 @@
-use Rattle.std.proofs.Common.{arith}
+use Rattle.std.proofs.Common.{◌≡◌, arith, subst}
 use Rattle.std.proofs.lemmas.Int.{clamps}
+use Rattle.ea_mem_shared.specs.Memory.{told_of}
+use Rattle.ea_sched.specs.Looks.{PassesLooks}
 use Rattle.ea_given.proofs.Running.{stands-moves, stands-ready, turns-taken}
 use Rattle.ea_given.proofs.turns.step_some.Goals as goal
 
@@ -23,3 +25,10 @@ returns-clause-took c = λ d t me steps w shares at.
 pub returns-clause-quiet : goal.returns-clause-quiet
 returns-clause-quiet c = λ many.
     c.in_ok-taken.ensures.looks (omega (arith, clamps, many, c.max.ensures))
+
+pub returns-clause-uncounted : goal.returns-clause-uncounted
+returns-clause-uncounted c = λ many.
+    let same : c.in_ok-taken.taken ≡ c.max.result =
+    omega (arith, clamps, many, c.max.ensures) in
+    subst (λ n. PassesLooks n c.args.scheduler.now (told_of c.args.shared.now)) same
+    (c.in_ok-taken.ensures.uncounted (omega (arith, clamps, many, c.max.ensures)))
