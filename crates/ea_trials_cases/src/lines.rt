@@ -1,8 +1,7 @@
 //! The lines of a text of cases.
-use std::alloc::AllocError;
 
 /// What a line says.
-#[derive(Copy)]
+#[derive(Debug, Clone, Copy)]
 pub enum Line<'a> {
     /// Nothing: it is empty, or a comment.
     Nothing,
@@ -24,12 +23,6 @@ pub enum Line<'a> {
     Byte(u8),
     /// It is whole.
     Run,
-}
-
-impl Clone for Line<'_> {
-    fn clone(&self) -> Result<Self, AllocError> {
-        Ok(*self)
-    }
 }
 
 /// What a line says; None if it is no line of a case.

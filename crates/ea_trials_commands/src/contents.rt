@@ -1,4 +1,5 @@
 //! What blocks contain.
 
 pub mod inputs;
+mod memory;
 pub mod worked;

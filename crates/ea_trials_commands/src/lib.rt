@@ -1,7 +1,6 @@
-//! The commands beside a run of one trace, each by itself: worked inputs, from which the
-//! definitions alone compute what was worked out by hand, and a run at a limit. Other inputs are
-//! cases of the program. All of it is under `cfg(test)`, and so is proved once; what is worked is
-//! `pub`, or no proof would ask for it.
+//! The commands beside a run of one trace, each by itself: worked inputs, from which the definitions
+//! alone compute what was worked out by hand, tables of inputs for readers, and whole runs. All of it
+//! is under `cfg(test)`, and so is proved once; what is worked is `pub`, or no proof would ask for it.
 #![tactic(auto)]
 
 #[cfg(test)]

@@ -1,3 +1,4 @@
 //! Inputs of recorded operations.
 
+mod reader;
 pub mod worked;

@@ -1,3 +1,4 @@
 //! Inputs with several types.
 
+mod reader;
 pub mod worked;

@@ -3,6 +3,7 @@
 
 pub mod limits;
 pub mod one;
+pub mod owns;
 pub mod pools;
 pub mod queues;
 pub mod reports;

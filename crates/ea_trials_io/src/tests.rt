@@ -1,5 +1,8 @@
-use crate::{MemSink, MemSource};
-use ea_io::{ReadAllFault, Sink, Source, StdSink, StdSource, read_all, write_all, write_texts};
+use crate::{LengthSink, MemSink, MemSource, PlainSource};
+use ea_io::{
+    ReadAllFault, Sink, Source, StdSink, StdSource, put_number, put_text, read_all, write_all,
+    write_texts,
+};
 use ea_model::List;
 use std::alloc::{AllocError, Global};
 use std::io;
@@ -40,14 +43,23 @@ fn reading_all_stops_past_the_limit_and_at_each_fault(rt: HostRuntime) -> Result
         assert!(rt; max < 100);
         let mut source = MemSource::new(list(alloc, bytes)?, 7, list(alloc, failing)?);
         let first = read_all(alloc, &mut source, max);
-        assert!(rt; name_of(&first) == answer);
+        assert_eq!(rt; name_of(&first), answer, "{given} bytes, at most {max}");
         if let Ok(all) = first {
-            assert!(rt; all.as_slice() == bytes);
+            assert_eq!(rt; all.as_slice(), bytes);
         }
         let rest = read_all(alloc, &mut source, 100)?;
-        assert!(rt; rest.len() == left);
+        assert_eq!(rt; rest.len(), left, "{given} bytes, at most {max}");
         assert!(rt; bytes.ends_with(rest.as_slice()));
     }
+    Ok(())
+}
+
+#[test]
+fn a_plain_source_gives_more_bytes_than_one_read_asks_for(rt: HostRuntime) -> Result<(), Fail> {
+    let bytes = Vec::from_elem(rt.alloc(), b'x', 10_000)?;
+    let mut source = PlainSource::new(List::from_vec(bytes));
+    assert_eq!(rt; read_all(rt.alloc(), &mut source, 10_000)?.len(), 10_000);
+    assert_eq!(rt; source.read(&mut [0; 4]), Ok(0));
     Ok(())
 }
 
@@ -70,9 +82,23 @@ fn writing_offers_all_that_is_left_and_stops_at_the_first_fault(
         assert!(rt; piece >= 1);
         let mut sink = MemSink::new(rt.alloc(), room, piece, list(rt.alloc(), failing)?)?;
         let written = write_texts(&mut sink, &["abcdefghi", "", "jklmnopqrst"]);
-        assert!(rt; written.is_ok() == whole);
-        assert!(rt; sink.taken() == LETTERS.get(..taken).unwrap_or(&[]));
+        assert_eq!(rt; written.is_ok(), whole, "room {room}, pieces of {piece}");
+        assert_eq!(rt; sink.taken(), LETTERS.get(..taken).unwrap_or(&[]));
     }
+    Ok(())
+}
+
+#[test]
+fn numbers_and_texts_are_put_and_counted(rt: HostRuntime) -> Result<(), Fail> {
+    let mut text = List::new(rt.alloc());
+    for (number, after) in [(0, " to "), (u64::MAX, " é")] {
+        put_number(&mut text, number)?;
+        put_text(&mut text, after)?;
+    }
+    assert_eq!(rt; text.as_slice(), "0 to 18446744073709551615 é".as_bytes());
+    let mut sink = LengthSink::new();
+    assert_eq!(rt; write_all(&mut sink, text.as_slice()), Ok(()));
+    assert_eq!(rt; sink.len(), 28);
     Ok(())
 }
 
@@ -101,16 +127,19 @@ impl Read for Lapsing<'_> {
 #[test]
 fn a_reader_gives_its_bytes_and_may_fail_in_between(rt: HostRuntime) -> Result<(), Fail> {
     let mut source = StdSource::new(LETTERS);
-    assert!(rt; read_all(rt.alloc(), &mut source, 20)?.as_slice() == LETTERS);
+    assert_eq!(rt; read_all(rt.alloc(), &mut source, 20)?.as_slice(), LETTERS);
 
     let mut source = StdSource::new(Lapsing {
         rest: LETTERS,
         calls: 0,
         fails: true,
     });
-    assert!(rt; name_of(&read_all(rt.alloc(), &mut source, 20)) == "read fault");
+    assert_eq!(rt;
+        name_of(&read_all(rt.alloc(), &mut source, 20)),
+        "read fault"
+    );
     let rest = read_all(rt.alloc(), &mut source, 20)?;
-    assert!(rt; rest.as_slice() == b"defghijklmnopqrst".as_slice());
+    assert_eq!(rt; rest.as_slice(), b"defghijklmnopqrst".as_slice());
     Ok(())
 }
 
@@ -123,10 +152,10 @@ fn a_reader_that_gives_none_is_at_its_end_and_is_not_read_again(
         calls: 0,
         fails: false,
     });
-    assert!(rt; source.read(&mut [0; 20]) == Ok(3));
-    assert!(rt; source.read(&mut [0; 20]) == Ok(0));
+    assert_eq!(rt; source.read(&mut [0; 20]), Ok(3));
+    assert_eq!(rt; source.read(&mut [0; 20]), Ok(0));
     let rest = read_all(rt.alloc(), &mut source, 20)?;
-    assert!(rt; rest.as_slice() == b"defghijklmnopqrst".as_slice());
+    assert_eq!(rt; rest.as_slice(), b"defghijklmnopqrst".as_slice());
 
     let mut source = StdSource::new(Lapsing {
         rest: LETTERS,
@@ -134,11 +163,11 @@ fn a_reader_that_gives_none_is_at_its_end_and_is_not_read_again(
         fails: false,
     });
     let first = read_all(rt.alloc(), &mut source, 20)?;
-    assert!(rt; first.as_slice() == b"abc".as_slice());
+    assert_eq!(rt; first.as_slice(), b"abc".as_slice());
     Ok(())
 }
 
-#[derive(Clone, Copy, PartialEq, Eq)]
+#[derive(Debug, Clone, Copy, PartialEq, Eq)]
 enum Lapse {
     Write,
     Zero,
@@ -194,11 +223,15 @@ fn a_writer_is_flushed_after_each_write_and_may_fail(rt: HostRuntime) -> Result<
             flushes: 0,
         };
         let mut sink = StdSink::new(&mut writer);
-        assert!(rt; write_all(&mut sink, b"abcdefgh").is_ok() == whole);
-        assert!(rt; sink.write(b"!") == Ok(1));
+        assert_eq!(rt;
+            write_all(&mut sink, b"abcdefgh").is_ok(),
+            whole,
+            "{lapse:?}"
+        );
+        assert_eq!(rt; sink.write(b"!"), Ok(1), "{lapse:?}");
         drop(sink);
-        assert!(rt; writer.text.as_slice() == text);
-        assert!(rt; writer.flushes == flushes);
+        assert_eq!(rt; writer.text.as_slice(), text, "{lapse:?}");
+        assert_eq!(rt; writer.flushes, flushes, "{lapse:?}");
     }
     Ok(())
 }

@@ -15,7 +15,7 @@ const ROOM: usize = 1 << 18;
 const MOST_WORDS: usize = 100;
 
 /// What a run is given.
-#[derive(Clone, Copy)]
+#[derive(Debug, Clone, Copy)]
 pub struct Case<'a> {
     /// The words of the command line, spaces between them. `''` is the empty word.
     pub words: &'a str,

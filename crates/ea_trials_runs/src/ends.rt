@@ -36,7 +36,7 @@ fn a_failing_read_ends_the_run(rt: HostRuntime) -> Result<(), Fail> {
             ..GOOD
         };
         let ran = case.run(&rt, rt.alloc())?;
-        assert!(rt; ran.told() == (3, "", READ_FAILED));
+        assert_eq!(rt; ran.told(), (3, "", READ_FAILED), "of {call}");
     }
     Ok(())
 }
@@ -50,7 +50,11 @@ fn a_failing_write_leaves_what_was_written_before(rt: HostRuntime) -> Result<(),
             ..GOOD
         };
         let ran = case.run(&rt, rt.alloc())?;
-        assert!(rt; ran.told() == (4, front(TEXT, done), WRITE_FAILED));
+        assert_eq!(rt;
+            ran.told(),
+            (4, front(TEXT, done), WRITE_FAILED),
+            "of {call}"
+        );
     }
     Ok(())
 }
@@ -70,7 +74,7 @@ fn cut_line<R: Threads + Sync + Abort>(
             ..*given
         };
         let ran = case.run(rt, alloc)?;
-        assert!(rt; ran.told() == (status, out, front(line, done)));
+        assert_eq!(rt; ran.told(), (status, out, front(line, done)), "of {case:?}");
     }
     Ok(())
 }

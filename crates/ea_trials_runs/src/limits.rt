@@ -36,9 +36,9 @@ fn an_input_has_16_megabytes_at_most(rt: HostRuntime) -> Result<(), Fail> {
         let mut input = vec![in rt.alloc(); b'#'; comment]?;
         input.extend_from_slice(trace)?;
         let (status, length, err) = measure(&rt, rt.alloc(), input)?;
-        assert!(rt; status == wanted);
-        assert!(rt; length == text);
-        assert!(rt; err.taken() == line.as_bytes());
+        assert_eq!(rt; status, wanted, "with {comment}");
+        assert_eq!(rt; length, text, "with {comment}");
+        assert_eq!(rt; err.taken(), line.as_bytes(), "with {comment}");
     }
     Ok(())
 }
@@ -64,9 +64,9 @@ fn a_trace_has_1048576_operations_at_most(rt: HostRuntime) -> Result<(), Fail> {
     for (frees, wanted, text, line) in cases {
         let input = trace_of(rt.alloc(), frees, "")?;
         let (status, length, err) = measure(&rt, rt.alloc(), input)?;
-        assert!(rt; status == wanted);
-        assert!(rt; length == text);
-        assert!(rt; err.taken() == line.as_bytes());
+        assert_eq!(rt; status, wanted, "after {frees} frees");
+        assert_eq!(rt; length, text, "after {frees} frees");
+        assert_eq!(rt; err.taken(), line.as_bytes(), "after {frees} frees");
     }
     Ok(())
 }
@@ -99,8 +99,8 @@ fn too_many_operations_are_told_before_a_name(rt: HostRuntime) -> Result<(), Fai
     for (frees, last, line) in cases {
         let input = trace_of(rt.alloc(), frees, last)?;
         let (status, length, err) = measure(&rt, rt.alloc(), input)?;
-        assert!(rt; (status, length) == (2, 0));
-        assert!(rt; err.taken() == line.as_bytes());
+        assert_eq!(rt; (status, length), (2, 0), "{last} after {frees} frees");
+        assert_eq!(rt; err.taken(), line.as_bytes(), "{last} after {frees} frees");
     }
     Ok(())
 }

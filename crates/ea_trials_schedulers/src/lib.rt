@@ -1,12 +1,17 @@
-//! Tests of the words that threads share, of one region that all take, and of schedulers that run
-//! beside each other. Names, searches and rows in plain memory are shown by cases of the program.
-//! Nobody stands on this crate.
+//! Tests of what schedulers share (names, words, rows in plain memory, one region), of their searches,
+//! and of schedulers that run beside each other. Nobody stands on this crate.
 #![tactic(auto)]
 
 #[cfg(test)]
 mod meeting;
 #[cfg(test)]
+mod names;
+#[cfg(test)]
 mod region;
+#[cfg(test)]
+mod searches;
+#[cfg(test)]
+mod shared;
 #[cfg(test)]
 mod threads;
 #[cfg(test)]

@@ -76,7 +76,10 @@ fn each_scheduler_is_at_its_second_step_while_the_other_is(rt: HostRuntime) -> R
         let meeting = Meeting::new();
         let outcome = run_threads(&rt, alloc, config, &trace, &meeting)?;
         assert!(rt; meeting.have_met());
-        assert!(rt; str::from_utf8(print(alloc, &outcome)?.as_slice()) == Ok(text));
+        assert_eq!(rt;
+            str::from_utf8(print(alloc, &outcome)?.as_slice()),
+            Ok(text)
+        );
     }
     Ok(())
 }
@@ -104,8 +107,8 @@ fn schedulers_of_two_types_meet(rt: HostRuntime) -> Result<(), Fail> {
         .iter()
         .zip([HANDED_OVER_TEXT, NOTHING_TEXT])
     {
-        assert!(rt; str::from_utf8(print(alloc, outcome)?.as_slice()) == Ok(text));
+        assert_eq!(rt; str::from_utf8(print(alloc, outcome)?.as_slice()), Ok(text));
     }
-    assert!(rt; outcomes.len() == 2);
+    assert_eq!(rt; outcomes.len(), 2);
     Ok(())
 }

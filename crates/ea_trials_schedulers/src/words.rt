@@ -35,8 +35,8 @@ fn each_node_has_its_number(rt: HostRuntime) {
     ] {
         match decode_node(number) {
             Some(decoded) => {
-                assert!(rt; decoded == node);
-                assert!(rt; encode_node(decoded) == number);
+                assert_eq!(rt; decoded, node, "at {number}");
+                assert_eq!(rt; encode_node(decoded), number, "at {number}");
             }
             None => assert!(rt; false, "no node has {number}"),
         }
@@ -59,7 +59,7 @@ fn other_numbers_are_no_nodes(rt: HostRuntime) {
         9_223_372_036_854_775_811,
         18_446_744_073_709_551_615,
     ] {
-        assert!(rt; decode_node(number) == None);
+        assert_eq!(rt; decode_node(number), None, "at {number}");
     }
 }
 
@@ -102,8 +102,8 @@ fn each_owner_word_has_its_number(rt: HostRuntime) {
     ] {
         match decode(number) {
             Some(decoded) => {
-                assert!(rt; decoded == word);
-                assert!(rt; encode(decoded) == number);
+                assert_eq!(rt; decoded, word, "at {number}");
+                assert_eq!(rt; encode(decoded), number, "at {number}");
             }
             None => assert!(rt; false, "no owner word has {number}"),
         }
@@ -135,6 +135,6 @@ fn other_numbers_are_no_owner_words(rt: HostRuntime) {
         9_223_372_036_854_775_810,
         18_446_744_073_709_551_615,
     ] {
-        assert!(rt; decode(number) == None);
+        assert_eq!(rt; decode(number), None, "at {number}");
     }
 }

@@ -34,8 +34,8 @@ fn one_request_too_many_is_refused(rt: HostRuntime) -> Result<(), Fail> {
         let mut err = MemSink::new(rt.alloc(), 100, 16, List::new(rt.alloc()))?;
         let words = Vec::new(rt.alloc());
         let status = run_super(&rt, rt.alloc(), &words, &mut source, &mut out, &mut err);
-        assert!(rt; (status, out.taken().len()) == (2, 0));
-        assert!(rt; err.taken() == line.as_bytes());
+        assert_eq!(rt; (status, out.taken().len()), (2, 0), "after {backs} backs");
+        assert_eq!(rt; err.taken(), line.as_bytes(), "after {backs} backs");
     }
     Ok(())
 }
