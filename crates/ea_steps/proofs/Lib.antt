@@ -30,3 +30,5 @@ pub mod ByNumber
 pub mod TellingCarriers
 pub mod Printing
 pub mod Showing
+-- What is noted of a step before it.
+pub mod NotedNames

@@ -9,6 +9,7 @@ mod joined;
 mod lines;
 mod placed;
 mod rows;
+mod touched;
 
 pub use joined::Joined;
 pub use placed::PlacedBlock;
