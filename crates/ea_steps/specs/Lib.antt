@@ -4,6 +4,8 @@ pub mod Found
 pub mod FoundCarriers
 pub mod Fronts
 pub mod Groups
+pub mod LookedUp
+pub mod Noted
 pub mod Printed
 pub mod Rows
 pub mod Shown
