@@ -30,3 +30,6 @@ pub mod ByNumber
 pub mod TellingCarriers
 pub mod Printing
 pub mod Showing
+pub mod Tellings
+pub mod ToldLines
+pub mod ToldRuns

@@ -11,3 +11,5 @@ pub mod Steps
 pub mod Taking
 pub mod Text
 pub mod Touched
+pub mod Noted
+pub mod Told

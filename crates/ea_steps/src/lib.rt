@@ -2,6 +2,7 @@
 //! and the command that prints them.
 #![tactic(auto)]
 
+mod changes;
 mod counts;
 mod front;
 mod groups;
@@ -9,6 +10,8 @@ mod joined;
 mod lines;
 mod placed;
 mod rows;
+mod telling;
+mod touched;
 
 pub use joined::Joined;
 pub use placed::PlacedBlock;
