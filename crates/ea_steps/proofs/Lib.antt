@@ -32,3 +32,6 @@ pub mod Printing
 pub mod Showing
 -- What is noted of a step before it.
 pub mod NotedNames
+pub mod Tellings
+pub mod ToldLines
+pub mod ToldRuns

@@ -13,3 +13,6 @@ pub mod Steps
 pub mod Taking
 pub mod Text
 pub mod Touched
+pub mod Language
+pub mod LookedUp
+pub mod Told

@@ -1,0 +1,217 @@
+//! The lines of what a step did: what it could touch is asked for again after it.
+ghost use Rattle.std.specs.Prelude.{◌≡◌, ◌++◌, None, OnOk};
+ghost use Rattle.ea_given.specs.Runs.{HasScheduler, IsRun};
+ghost use Rattle.ea_steps.specs.LookedUp.{AddsGone, AddsGoneIf, AddsMade, AddsShrunk};
+ghost use Rattle.ea_steps.specs.Noted.{DoesStep, HasStepped};
+
+use crate::lines::{put_ended, put_gone, put_log, put_made, put_released, put_shrunk};
+use crate::placed::PlacedBlock;
+use crate::touched::Touched;
+use ea_given::GivenRun;
+use ea_model::{CarrierLine, Entry, List, OutOfMemory, Spot};
+use ea_sched::Scheduler;
+use std::alloc::Global;
+
+/// Adds the line of a carrier that was there, if it has gone: it is the one that the step made, or
+/// none is there. Nothing is added for one that is the last one that was asked for.
+fn put_gone_if(
+    text: &mut List<u8>,
+    run: &GivenRun<'_>,
+    made: Option<u32>,
+    last: Option<u32>,
+    number: u32,
+) -> Result<(), OutOfMemory>
+    requires { IsRun run.now }
+    ensures { OnOk result (AddsGoneIf run.now text.old.items text.new.items made last number) }
+{
+    if let Some(before) = last {
+        if before == number {
+            return Ok(());
+        }
+    }
+    if let Some(new) = made {
+        if new == number {
+            return put_gone(text, number);
+        }
+    }
+    if run.line_of(number).is_some() {
+        return Ok(());
+    }
+    put_gone(text, number)
+}
+
+/// Adds the lines of the carriers that went, of numbers that don't fall.
+pub(crate) fn put_all_gone(
+    text: &mut List<u8>,
+    run: &GivenRun<'_>,
+    made: Option<u32>,
+    numbers: &[u32],
+) -> Result<(), OutOfMemory>
+    requires { IsRun run.now }
+    ensures { OnOk result
+        (AddsGone run.now text.old.items text.new.items made None numbers.now) }
+{
+    let mut last = None;
+    for number in numbers {
+        put_gone_if(text, run, made, last, *number)?;
+        last = Some(*number);
+    }
+    Ok(())
+}
+
+/// Adds the line of a carrier that was there, if it has fewer pages than before.
+pub(crate) fn put_shrunk_if(
+    text: &mut List<u8>,
+    run: &GivenRun<'_>,
+    made: Option<u32>,
+    before: Option<CarrierLine>,
+) -> Result<(), OutOfMemory>
+    requires { IsRun run.now }
+    ensures { OnOk result (AddsShrunk run.now text.old.items text.new.items made before) }
+{
+    let Some(before) = before else {
+        return Ok(());
+    };
+    if let Some(new) = made {
+        if new == before.number {
+            return Ok(());
+        }
+    }
+    let Some(now) = run.line_of(before.number) else {
+        return Ok(());
+    };
+    if now.pages < before.pages {
+        return put_shrunk(text, now);
+    }
+    Ok(())
+}
+
+/// Adds the line of the carrier that the step made, if it made one.
+pub(crate) fn put_made_if(
+    text: &mut List<u8>,
+    run: &GivenRun<'_>,
+    made: Option<u32>,
+) -> Result<(), OutOfMemory>
+    requires { IsRun run.now }
+    ensures { OnOk result (AddsMade run.now text.old.items text.new.items made) }
+{
+    let Some(number) = made else {
+        return Ok(());
+    };
+    let Some(now) = run.line_of(number) else {
+        return Ok(());
+    };
+    put_made(text, now)
+}
+
+/// Whether the block is there, under its name.
+fn is_there(run: &GivenRun<'_>, placed: PlacedBlock) -> bool {
+    let spot = Spot {
+        carrier: placed.carrier,
+        offset: placed.block.offset,
+    };
+    match run.block_at(spot) {
+        Some(block) => block.name == placed.block.name,
+        None => false,
+    }
+}
+
+/// Whether one of the entries gives the block of the name a new one.
+fn is_renamed(entries: &[Entry<usize>], name: u32) -> bool {
+    for entry in entries {
+        if let Entry::ReallocHere { old, .. } = entry {
+            if *old == name {
+                return true;
+            }
+        }
+    }
+    false
+}
+
+/// The entries that the step added to the log of its scheduler.
+fn added<'a>(scheduler: &'a Scheduler<'_>, touched: &Touched) -> &'a [Entry<usize>] {
+    let (entries, _) = scheduler.log().parts();
+    &entries[touched.entries..]
+}
+
+/// The carrier in which an entry says that a block was placed.
+fn placed_in(entry: &Entry<usize>) -> Option<u32> {
+    match entry {
+        Entry::Alloc { place, .. }
+        | Entry::ReallocHere { place, .. }
+        | Entry::ReallocMoved { place, .. }
+        | Entry::ReallocQueued { place, .. } => Some(place.carrier),
+        _ => None,
+    }
+}
+
+/// The carrier of the first block that these entries place.
+fn first_placed(entries: &[Entry<usize>]) -> Option<u32> {
+    for entry in entries {
+        if let Some(carrier) = placed_in(entry) {
+            return Some(carrier);
+        }
+    }
+    None
+}
+
+/// The carrier that the step made, if it made one: `made_number` of the step.
+fn made(run: &GivenRun<'_>, me: u32, touched: &Touched) -> Option<u32> {
+    let scheduler = run.at(me);
+    if scheduler.instance().created() == touched.created {
+        return None;
+    }
+    if touched.creates.is_some() {
+        return touched.creates;
+    }
+    if let Some(place) = scheduler.moving() {
+        return Some(place.carrier);
+    }
+    first_placed(added(scheduler, touched))
+}
+
+/// Adds the lines of the blocks that the step released, of those that it could release, by rising
+/// name.
+fn put_all_released(
+    text: &mut List<u8>,
+    run: &GivenRun<'_>,
+    blocks: &mut [PlacedBlock],
+    entries: &[Entry<usize>],
+) -> Result<(), OutOfMemory> {
+    blocks.sort_unstable_by_key(|placed| placed.block.name);
+    for placed in blocks.iter() {
+        if !is_there(run, *placed) && !is_renamed(entries, placed.block.name) {
+            put_released(text, *placed)?;
+        }
+    }
+    Ok(())
+}
+
+/// Adds the lines of what the step of scheduler `me` did, of which that was noted before it.
+pub(crate) fn put_changes(
+    alloc: Global,
+    text: &mut List<u8>,
+    run: &GivenRun<'_>,
+    me: u32,
+    touched: &mut Touched,
+) -> Result<(), OutOfMemory>
+    requires stands { IsRun run.now }
+    requires scheduler { HasScheduler me run.now }
+    requires stepped { HasStepped me touched.old run.now }
+    ensures { OnOk result (DoesStep me touched.old run.now text.old.items text.new.items) }
+{
+    let made = made(run, me, touched);
+    let scheduler = run.at(me);
+    let entries = added(scheduler, touched);
+    put_all_released(text, run, &mut touched.blocks, entries)?;
+    touched.carriers.sort_unstable();
+    put_all_gone(text, run, made, &touched.carriers)?;
+    put_shrunk_if(text, run, made, touched.resized)?;
+    put_made_if(text, run, made)?;
+    let stopped = scheduler.stopped_after();
+    put_log(alloc, text, me, scheduler.log(), touched.entries, stopped)?;
+    if scheduler.ended() {
+        put_ended(text, me)?;
+    }
+    Ok(())
+}
