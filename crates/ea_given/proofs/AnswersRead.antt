@@ -33,6 +33,7 @@ use Rattle.ea_machine.specs.Table.{answer, link_answer, tried_at}
 use Rattle.ea_sound.specs.Places.{IsNumber}
 use Rattle.ea_sound.specs.Present.{Rule}
 use Rattle.ea_sound.specs.Turns.{answered}
+use Rattle.ea_sound.proofs.Calls.{as-node}
 use Rattle.ea_sound.proofs.Asked.{reached-rule}
 use Rattle.ea_sound.proofs.Calls as calls
 use Rattle.ea_sound.proofs.CarrierCalls as carriers
@@ -46,7 +47,6 @@ use Rattle.ea_mem_shared.specs.Memory.{Sharing, shared_of}
 use Rattle.ea_sched.specs.declared.wants.Wanted.{Wanted}
 use Rattle.ea_sched.specs.declared.wants.Wanted.TheVariants as wanted
 use Rattle.ea_sched.specs.Wants.{is_last_at, row_told, wanted_of}
-use Rattle.ea_sched.proofs.Calling.{as-node}
 use Rattle.ea_given.specs.declared.heard.Heard.{Heard}
 use Rattle.ea_given.specs.declared.heard.Heard.TheVariants as heard
 use Rattle.ea_given.specs.Heard.{CanRead, given_told, heard_of, row_of}

@@ -18,10 +18,11 @@ use Rattle.ea_machine.specs.Stops.{cut, run_with_stops}
 use Rattle.ea_sound.specs.Places.{IsNumber}
 use Rattle.ea_sound.specs.Rule.{Kept}
 use Rattle.ea_sound.proofs.Asked.{reached-rule}
-use Rattle.ea_sound.proofs.PresentContents.{contents, first_content, present-found}
+use Rattle.ea_sound.proofs.PresentContents.{content_in, contents, first-listed, first_content, listed}
+use Rattle.ea_sound.proofs.PresentContents.{present-found}
 use Rattle.ea_mem_shared.specs.Places.{place_at}
 use Rattle.ea_outcome.specs.Resting.{carrier_of}
-use Rattle.ea_outcome.proofs.OutcomeSums.{content_in, first-listed, listed, present-is}
+use Rattle.ea_outcome.proofs.OutcomeSums.{present-is}
 use Rattle.ea_given.specs.declared.run.GivenRun.{GivenRun}
 use Rattle.ea_given.specs.Between.{carrier_in}
 use Rattle.ea_given.specs.Runs.{StandsAfter}

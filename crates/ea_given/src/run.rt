@@ -225,6 +225,21 @@ impl<'t> GivenRun<'t> {
         )
     }
 
+    /// Takes that many turns of a scheduler; those after its end or its stop change nothing. It
+    /// fails only where there is no memory.
+    pub fn take_turns(&mut self, alloc: Global, me: u32, count: u32) -> Result<(), OutOfMemory>
+        requires stands { IsRun self.old }
+        requires scheduler { HasScheduler me self.old }
+        ensures { OnOk result (HasTaken (replicate count me) self.old self.new) }
+    {
+        take_turns(
+            &mut self.schedulers[me as usize - 1],
+            alloc,
+            &mut self.shared,
+            count,
+        )
+    }
+
     /// Whether a scheduler has ended: its text is done.
     pub fn ended(&self, me: u32) -> bool
         requires stands { IsRun self.now }

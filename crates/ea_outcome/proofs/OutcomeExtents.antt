@@ -35,7 +35,7 @@ use Rattle.ea_sound.proofs.BlockWeights.{only_at-itself}
 use Rattle.ea_sound.proofs.KeyedWeights.{sum-item}
 use Rattle.ea_sound.proofs.Numbered.{scheduler-seat}
 use Rattle.ea_sound.proofs.OverUnits.{lie-apart}
-use Rattle.ea_sound.proofs.PresentContents.{content_in, first_content}
+use Rattle.ea_sound.proofs.PresentContents.{content_in, first-listed, first_content}
 use Rattle.ea_sound.proofs.PresentUnits.{IsFound, stands-found}
 use Rattle.ea_sound.proofs.SoundRanges.{number-scheduler}
 use Rattle.ea_sound.proofs.Totals.{total-part}
@@ -43,7 +43,7 @@ use Rattle.ea_sched.specs.declared.state.Scheduler.{Scheduler}
 use Rattle.ea_sched.specs.Acting.{actor_of}
 use Rattle.ea_outcome.specs.Extents.{HasSpot, extent_at}
 use Rattle.ea_outcome.specs.Resting.{StandIn, carrier_of}
-use Rattle.ea_outcome.proofs.OutcomeSums.{first-listed, many-schedulers, present-is, scheduler-is}
+use Rattle.ea_outcome.proofs.OutcomeSums.{many-schedulers, present-is, scheduler-is}
 
 -- a name with its spot is among names
 stands-among : (n : ℕ) (p : Spot) (names : List Named) → spot_named n names ≡ Some p

@@ -19,9 +19,10 @@ use Rattle.ea_machine.specs.Setup.{greatest_number, migration, setup_of}
 use Rattle.ea_instance.specs.declared.layouts.Layout.{Layout}
 use Rattle.ea_instance.specs.Layouts.{layout_of, plain_layout}
 use Rattle.ea_sched.specs.declared.state.Scheduler.{Scheduler}
+use Rattle.ea_sound.proofs.PresentContents.{listed}
 use Rattle.ea_outcome.specs.Layouts.{first_layouts, layouts_if, layouts_in}
 use Rattle.ea_outcome.specs.Resting.{StandIn, carrier_of}
-use Rattle.ea_outcome.proofs.OutcomeSums.{listed, present-is}
+use Rattle.ea_outcome.proofs.OutcomeSums.{present-is}
 
 -- the layout of a carrier that is there
 abbrev pub layout_in : Present → Layout

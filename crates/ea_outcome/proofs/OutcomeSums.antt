@@ -50,8 +50,9 @@ use Rattle.ea_sound.proofs.Calls.{given-range}
 use Rattle.ea_sound.proofs.Created.{scheduler-number}
 use Rattle.ea_sound.proofs.Numbered.{scheduler-seat}
 use Rattle.ea_sound.proofs.PresentCarriers.{at_home, leaves-nothing, present-owner}
-use Rattle.ea_sound.proofs.PresentContents.{IsPrinted, contents, first_content, given-printed}
-use Rattle.ea_sound.proofs.PresentContents.{held-printed, live-named, of_names, present-found}
+use Rattle.ea_sound.proofs.PresentContents.{IsPrinted, content_in, contents, first-listed}
+use Rattle.ea_sound.proofs.PresentContents.{first_content, given-printed, held-printed, listed}
+use Rattle.ea_sound.proofs.PresentContents.{live-named, of_names, present-found}
 use Rattle.ea_sound.proofs.PresentPlaces.{employed-either}
 use Rattle.ea_sound.proofs.Printed.{printed-all}
 use Rattle.ea_sound.proofs.PrintedSums.{prints-sums}
@@ -104,11 +105,6 @@ same_totals : (a b c d f h i j k l m n : ℕ) → a ≡ i → b ≡ j → c ≡ 
     (record { carriers = i; units = j; live = k; queued = l; free = m; header = n })
 same_totals a b c d f h i j k l m n p q r s t u = cc
 
--- a carrier as a list of at most one
-abbrev pub listed : Option Present → List Present
-listed None = []
-listed (Some p) = p ∷ []
-
 as-found : (word : Standing) (i : ℕ) (o : Option Content)
     → present_if o word i ≡ listed (found word i o)
 as-found word i None = refl
@@ -122,13 +118,6 @@ as-home i (Some x) = refl
 lines-listed : (o : Option Present) → map line_of (listed o) ≡ lines_if o
 lines-listed None = refl
 lines-listed (Some p) = refl
-
-abbrev pub content_in : Present → Content
-content_in p = p.content
-
-pub first-listed : (o : Option Present) → first_content (listed o) ≡ option_map content_in o
-first-listed None = refl
-first-listed (Some p) = refl
 
 blocks-in : (offset : ℕ) (o : Option Present)
     → option_and_then (λ (x : Content). block_at x.blocks offset) (option_map content_in o)

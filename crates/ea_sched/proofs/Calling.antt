@@ -52,16 +52,6 @@ left-more zero (y ∷ xs) ys x e = omega arith
 left-more (suc k) [] ys x e = absurd cc
 left-more (suc k) (y ∷ xs) ys x e = omega (arith, left-more k xs ys x e)
 
--- how many schedulers there are, and which name is the greatest, is told by what is shared, too
-pub as-node : {n m k l : ℕ} (node : Node) → n ≡ m → k ≡ l → IsNode m l node → IsNode n k node
-as-node (Block name spot) same greatest is = (
-  is.0,
-  omega (arith, is.1, greatest),
-  (is.2.0, omega (arith, is.2.1, ap (λ n. NUMBERS * n) same), is.2.2, is.2.3),
-)
-as-node (Carrier number) same greatest is =
-    (is.0, omega (arith, is, ap (λ n. NUMBERS * n) same))
-
 module _ (e : Setup) (me : ℕ) where
   -- nodes are worked off in place of those that were passed
   worked-passed : (nodes passed : List Node) (a : Actor)

@@ -3,8 +3,8 @@
 -- that is to be linked stands unlinked; a name that is to be given isn't given, and one that is to
 -- be taken isn't held; and the operation that a scheduler is in the middle of is the first one
 -- left.
-use Rattle.std.proofs.Common.{◌≡◌, ◌≢◌, ◌⊎◌, ℕ, ◌<◌, true, List, [], ◌∷◌, refl, sym, ap, ◌∙◌, subst}
-use Rattle.std.proofs.Common.{inl, inr, arith}
+use Rattle.std.proofs.Common.{◌≡◌, ◌≢◌, ◌⊎◌, ℕ, ◌*◌, ◌<◌, true, List, [], ◌∷◌, refl, sym, ap}
+use Rattle.std.proofs.Common.{◌∙◌, subst, inl, inr, arith}
 use Rattle.std.specs.Prelude.{◌==◌, All, Contains, Option, None, Some, option_map}
 use Rattle.std.proofs.lemmas.Bool.{cases_Bool}
 use Rattle.std.proofs.lemmas.List.Elements.{All-contains, All-head, All-nil, All-weaker}
@@ -13,6 +13,7 @@ use Rattle.ea_model.specs.declared.operations.Op.{Op}
 use Rattle.ea_model.specs.declared.operations.Op.TheVariants as op
 use Rattle.ea_model.specs.declared.settings.Config.{Config}
 use Rattle.ea_model.specs.declared.trace.Trace.{Trace}
+use Rattle.ea_model.specs.declared.units.TheConstants.{NUMBERS}
 use Rattle.ea_model.specs.Settings.{IsValidConfig}
 use Rattle.ea_model.specs.Trace.{IsScheduler, IsValidTrace}
 use Rattle.ea_model.proofs.Rising.{item_at-key}
@@ -56,6 +57,16 @@ use Rattle.ea_sound.proofs.StandingNodes.{passed-at, rest-at}
 use Rattle.ea_sound.proofs.Totals.{total-part}
 use Rattle.ea_sound.proofs.TraceNames.{IsNameOf, name-range}
 use Rattle.ea_sound.proofs.Weights.{one-itself}
+
+-- a node stands where there are as many schedulers, and the greatest name is the same
+pub as-node : {n m k l : ℕ} (node : Node) → n ≡ m → k ≡ l → IsNode m l node → IsNode n k node
+as-node (Block name spot) same greatest is = (
+  is.0,
+  omega (arith, is.1, greatest),
+  (is.2.0, omega (arith, is.2.1, ap (λ n. NUMBERS * n) same), is.2.2, is.2.3),
+)
+as-node (Carrier number) same greatest is =
+    (is.0, omega (arith, is, ap (λ n. NUMBERS * n) same))
 
 -- what stands unlinked in a queue or a walk has what all nodes there have
 unlinked-has : (P : Node → Type 0) (node : Node) (queue rest : List Mark)

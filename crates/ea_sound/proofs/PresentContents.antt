@@ -2,7 +2,7 @@
 -- number is that of the carrier where it is, and the block of each held or given name is found.
 use Rattle.std.proofs.Common.{◌≡◌, ◌≢◌, ℕ, zero, suc, ◌+◌, ◌<◌, ◌≤◌, List, [], ◌∷◌, map}
 use Rattle.std.proofs.Common.{refl, sym, ap, ◌∙◌, subst, inl, inr, arith}
-use Rattle.std.specs.Prelude.{Option, None, Some, IsSome, All, flat_map, get_or, sum_by}
+use Rattle.std.specs.Prelude.{Option, None, Some, IsSome, All, flat_map, get_or, option_map, sum_by}
 use Rattle.std.specs.List.{range_with_len}
 use Rattle.std.specs.Option.{option_and_then, option_or}
 use Rattle.std.proofs.lemmas.Bool.{cases_eq}
@@ -53,6 +53,15 @@ HasNumber c p = p.content.number ≡ c
 abbrev pub first_content : List Present → Option Content
 first_content [] = None
 first_content (p ∷ ps) = Some p.content
+
+-- a carrier as a list of at most one
+abbrev pub listed : Option Present → List Present
+listed None = []
+listed (Some p) = p ∷ []
+
+pub first-listed : (o : Option Present) → first_content (listed o) ≡ option_map content_in o
+first-listed None = refl
+first-listed (Some p) = refl
 
 or-none : (o : Option Content) → option_or o None ≡ o
 or-none None = refl

@@ -1,5 +1,6 @@
 use Rattle.std.proofs.Common.{refl, arith}
-use Rattle.ea_sched.proofs.Calling.{as-node, link-node, link-target, link-unlinked}
+use Rattle.ea_sound.proofs.Calls.{as-node}
+use Rattle.ea_sched.proofs.Calling.{link-node, link-target, link-unlinked}
 use Rattle.ea_sched.proofs.state.Scheduler.link.Goals as goal
 
 pub link-requires-clause-target : goal.link-requires-clause-target

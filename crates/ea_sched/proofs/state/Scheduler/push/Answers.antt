@@ -1,5 +1,6 @@
 use Rattle.std.proofs.Common.{refl, arith}
-use Rattle.ea_sched.proofs.Calling.{as-node, push-node, push-nowhere, push-target}
+use Rattle.ea_sound.proofs.Calls.{as-node}
+use Rattle.ea_sched.proofs.Calling.{push-node, push-nowhere, push-target}
 use Rattle.ea_sched.proofs.state.Scheduler.push.Goals as goal
 
 pub push-requires-clause-target : goal.push-requires-clause-target

@@ -3,8 +3,9 @@ use Rattle.std.proofs.lemmas.Result.{on_err_weaker, on_ok_weaker}
 use Rattle.ea_machine.specs.declared.stages.Stage.TheVariants.{Begin}
 use Rattle.ea_machine.specs.Machine.{begins}
 use Rattle.ea_machine.specs.Rows.{Rests, TakeLink}
+use Rattle.ea_sound.proofs.Calls.{as-node}
 use Rattle.ea_sched.specs.Acting.{actor_of}
-use Rattle.ea_sched.proofs.Calling.{as-node, ended-plans, pass-few, pass-next, pass-node}
+use Rattle.ea_sched.proofs.Calling.{ended-plans, pass-few, pass-next, pass-node}
 use Rattle.ea_sched.proofs.Calling.{passed-ended, passed-next, passed-works}
 use Rattle.ea_sched.proofs.Calling.{ready-counts, rests-suits, row-done, row-plans}
 use Rattle.ea_sched.proofs.state.Scheduler.take_link.Goals as goal
