@@ -1,4 +1,4 @@
-"""The steps of a run as a page for a browser, for tools/picture: picture_steps.html with what the text of `steps` tells."""
+"""The steps of a run as a page for a browser, for tools/picture: picture_steps.html with what `steps` tells."""
 import html
 import json
 import os
@@ -17,7 +17,8 @@ STEP = re.compile(r"([0-9]+)(?:-([0-9]+))? ([0-9]+) ([0-9]+)(?:-([0-9]+))? ((?:t
 WORDS = ("absent", "employed", "pooled", "busy", "returning")
 WORD = re.compile(f"({'|'.join(WORDS)})(?: ([0-9]+))?(?: ([0-9]+))?")
 # The rows that are of a carrier, and the word that each leaves: that which stands in the row, or one of its scheduler.
-OF_A_CARRIER = re.compile(r"(look|busy_try|settle|abandon|fetch_try|create|send_home|clear) ([0-9]+)(?: to ([0-9]+))? ?(.*)")
+OF_A_CARRIER = re.compile("(look|busy_try|settle|abandon|fetch_try|create|send_home|clear)"
+                          " ([0-9]+)(?: to ([0-9]+))? ?(.*)")
 MOST_STEPS = 20000
 
 
@@ -33,6 +34,11 @@ class Lane:
     @property
     def word(self):
         return self.spans[-1][1:] if self.spans else (0, 0)
+
+    @property
+    def was_there(self):
+        """Whether it had a word but that of an absent one: a look alone is no carrier."""
+        return any(kind for _, kind, _ in self.spans)
 
 
 @dataclass
@@ -115,7 +121,8 @@ class Steps:
         if not lane.spans:
             lane.spans.append((0, *word))
         if lane.word != word:
-            raise Refused(f"{self.name}: carrier {number} has another word than its steps gave it: {self.told[at].line}")
+            line = self.told[at].line
+            raise Refused(f"{self.name}: carrier {number} has another word than its steps gave it: {line}")
 
     def check(self):
         """At the end each carrier has the word that its line tells."""
@@ -138,7 +145,7 @@ class Steps:
             "lost": [at for at, it in enumerate(self.told) if " lost " in it.row],
             "done": {at: it.done for at, it in enumerate(self.told) if it.done},
             "lanes": [{"number": it.number, "owner": owner_of(it.number), "spans": it.spans, "marks": it.marks}
-                      for _, it in sorted(self.lanes.items())],
+                      for _, it in sorted(self.lanes.items()) if it.was_there],
             "words": WORDS,
             "rest": self.rest,
         }

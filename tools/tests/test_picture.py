@@ -646,7 +646,7 @@ class Steps(Case):
         return {it["number"]: [named(*span) for span in it["spans"]] for it in data["lanes"]}
 
     def test_a_carrier_that_two_want(self):
-        """By the example's comments: both are left in the pool; 2 fetches one of them between the look and the try of 3."""
+        """Both are left in the pool; scheduler 2 fetches one of them between the look and the try of scheduler 3."""
         data = self.steps(*self.example("lost-fetch"))
         self.assertEqual(self.lanes(data), {
             1: [("3074", "employed", 1), ("6153", "pooled", 1), ("12306", "employed", 3)],
@@ -665,6 +665,14 @@ class Steps(Case):
         data = self.steps("--trace", self.trace("alloc 1 100"), "--", "+MHmmbcs", "512", "+MHacul", "0")
         self.assertEqual(self.lanes(data), {1: [("1", "employed", 1)]})
         self.assertEqual(data["done"]["0"], ["log 1 alloc 1 1 8 14"])
+
+    def test_a_look_at_a_number_without_a_carrier(self):
+        """Two schedulers look in turn, so each look has a line. A carrier that never comes has no lane."""
+        trace = self.sections([["alloc 1 8"], ["alloc 2 8"]], "schedule", "1 2 1 2 1 2")
+        data = self.steps("--trace", trace, "--", "+S", "2")
+        looks = ["3 1 2 look 2048 absent", "4 2 2 look 2048 absent", "5 1 3 look 2047 absent"]
+        self.assertEqual(data["lines"][2:5], looks)
+        self.assertEqual([it["number"] for it in data["lanes"]], [1, 1025])
 
     def test_sixteen_schedulers(self):
         sections = [[f"alloc {number} 2000"] for number in range(1, 17)]
