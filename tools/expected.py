@@ -10,7 +10,7 @@ import stat
 import sys
 
 LETTERS = "B D E H L R S T"
-COMMANDS = ("types", "super", "contents", "histogram", "recorded")
+COMMANDS = ("types", "super", "contents", "histogram", "recorded", "steps")
 STRATEGIES = "bf aobf aoff aoffcbf aoffcaobf ageffcaoff ageffcbf ageffcaobf gf af"
 KILOBYTES = "kilobytes"
 # Of a word that is refused.

@@ -14,11 +14,11 @@ NOT_BUILT = 70
 MOST_SCHEDULERS = 64
 SMALLEST_TRACE = b"type H\nscheduler 1\nschedule\nend\n"
 # The program's first words for an input of several allocator types, and for one of one shared region, each of which
-# begins the first line of that, too; for one of operations in their recorded order; for the histograms of a trace; and
-# for one with writes and reads.
+# begins the first line of that, too; for one of operations in their recorded order; for the histograms and for the steps
+# of a trace; and for one with writes and reads.
 OF_SEVERAL, OF_REGION, OF_RECORDED, OF_HISTOGRAMS = "types", "super", "recorded", "histogram"
-OF_CONTENTS = "contents"
-COMMANDS = (OF_SEVERAL, OF_REGION, OF_RECORDED, OF_HISTOGRAMS, OF_CONTENTS)
+OF_STEPS, OF_CONTENTS = "steps", "contents"
+COMMANDS = (OF_SEVERAL, OF_REGION, OF_RECORDED, OF_HISTOGRAMS, OF_STEPS, OF_CONTENTS)
 
 
 # Inputs

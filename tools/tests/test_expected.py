@@ -84,7 +84,7 @@ class Words(unittest.TestCase):
 
     def test_words_of_run_that_are_no_flags(self):
         """A command may come first, and a file last."""
-        said, any_word = "word 1: unknown flag", "a command (types super contents histogram recorded), a flag, or a file that is there"
+        said, any_word = "word 1: unknown flag", "a command (types super contents histogram recorded steps), a flag, or a file that is there"
         for words, wanted in (
             ("record +S 2", f"{any_word}; near 'record' is recorded"),
             ("MHas bf", f"{any_word}; near 'MHas' is +MHas"),

@@ -18,7 +18,7 @@ from counted import run_tests
 
 PROGRAM = os.path.abspath(sys.argv.pop(1)) if len(sys.argv) > 1 else None
 SECTIONS = {"types": "Several allocator types", "super": "One shared region", "recorded": "Recorded operations",
-            "histogram": "Histograms", "contents": "Contents of blocks"}
+            "histogram": "Histograms", "contents": "Contents of blocks", "steps": "The steps of a run"}
 CODE = r"`([^`]+)`"
 
 
@@ -72,12 +72,13 @@ class Examples(unittest.TestCase):
             shown = section("commands.md", SECTIONS[command])
             self.assert_text([command, *words_of(shown)], *blocks(shown)[:2])
 
-    def test_histograms(self):
-        shown = section("commands.md", SECTIONS["histogram"])
-        body = re.findall(CODE, re.search(r"The body (.*) gives", shown)[1])
-        lines = ["type H", "scheduler 1", *body, "schedule", "end"]
-        self.assertEqual(len(lines), 10)
-        self.assert_text(["histogram", *words_of(shown)], "\n".join(lines), blocks(shown)[0])
+    def test_texts_of_bodies(self):
+        for command, count in (("histogram", 6), ("steps", 2)):
+            shown = section("commands.md", SECTIONS[command])
+            body = re.findall(CODE, re.search(r"The body (.*) gives", shown)[1])
+            self.assertEqual(len(body), count)
+            lines = ["type H", "scheduler 1", *body, "schedule", "end"]
+            self.assert_text([command, *words_of(shown)], "\n".join(lines), blocks(shown)[0])
 
     def test_generated(self):
         shown = section("output.md", "The text of a generated trace")
