@@ -76,6 +76,7 @@ impl Drop for Instance {
             carriers,
             singles,
             created: _,
+            count: _,
             spare,
         } = self;
         drop(own);
