@@ -130,7 +130,7 @@ class Files(unittest.TestCase):
         self.assertEqual((status, said, lines[:2], len(lines)), (0, "", ["type B", "scheduler 1"], 13))
         status, said, lines = self.load("record", "--type", "B", "--recorded")
         self.assertEqual((status, said), (0, ""))
-        self.assertEqual(lines, ["type B", "1 alloc 1 86", "1 realloc 1 2 538", "1 give 2 2", "2 take 2 1", "2 free 2", "end"])
+        self.assertEqual(lines, ["type B", "rules powers falling counter", "1 alloc 1 86", "1 realloc 1 2 538", "1 give 2 2", "2 take 2 1", "2 free 2", "end"])
 
 
 if __name__ == "__main__":
