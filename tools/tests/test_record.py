@@ -286,6 +286,7 @@ class Node(Case):
         for wanted in range(5001, 5301):
             self.assertTrue(any(wanted <= it <= wanted + 64 for it in sizes), wanted)
         lines = operations(self.load("--recorded", path, "--type", "B"))
+        self.assertEqual(lines[1], "rules powers falling counter")
         self.assertGreaterEqual(sum(" alloc " in it for it in lines), 300)
         self.assertGreaterEqual(sum(" free " in it for it in lines), 290)
         self.run_of(path)
