@@ -1,11 +1,11 @@
 //! What one line of recorded operations says, by itself.
 ghost use Rattle.std.specs.Prelude.{◌≡◌};
 ghost use Rattle.ea_model.specs.Words.{words};
-ghost use Rattle.ea_recorded.specs.Language.{addressed, line_of};
+ghost use Rattle.ea_recorded.specs.Language.{addressed, line_of, rules_of, with_rule};
 ghost use Rattle.ea_recorded.specs.Told.{IsLineInRange};
 
 use ea_model::words::first_word;
-use ea_model::{Letter, Op};
+use ea_model::{Letter, NO_RULES, Op, Rules};
 use ea_trace::words::scheduler;
 use ea_trace::{Line, read_line};
 
@@ -16,6 +16,8 @@ pub enum RecordedLine {
     Skipped,
     /// `type X`: whose settings hold.
     Letter { letter: Letter },
+    /// `rules RULE ..`: which hold.
+    Rules { rules: Rules },
     /// `N` and an operation, which is scheduler N's. Whether it is there isn't looked at.
     Operation { scheduler: u32, op: Op },
     /// `end`: nothing but lines that are skipped may follow.
@@ -29,10 +31,12 @@ pub enum RecordedLine {
 pub enum Stage {
     /// Before the `type` line.
     Start,
-    /// Among the operations, which are of this letter.
-    Lines { letter: Letter },
+    /// Directly after it: the operations are of this letter, and a `rules` line may stand.
+    Typed { letter: Letter },
+    /// Among the operations, which are run by these rules.
+    Lines { letter: Letter, rules: Rules },
     /// After `end`.
-    Ended { letter: Letter },
+    Ended { letter: Letter, rules: Rules },
 }
 
 /// A line of an operation: its number, from 1, and whose operation it is.
@@ -43,7 +47,52 @@ pub struct OwnLine {
     pub op: Op,
 }
 
-/// A line that may be a scheduler's number and an operation.
+/// These rules and the one of a word, if it is a rule and none of these.
+fn with_rule(rules: Rules, word: &[u8]) -> Option<Rules>
+    ensures { result ≡ with_rule rules word.now }
+{
+    if word == b"powers".as_slice() && !rules.powers {
+        return Some(Rules {
+            powers: true,
+            ..rules
+        });
+    }
+    if word == b"falling".as_slice() && !rules.falling {
+        return Some(Rules {
+            falling: true,
+            ..rules
+        });
+    }
+    if word == b"counter".as_slice() && !rules.counter {
+        return Some(Rules {
+            counter: true,
+            ..rules
+        });
+    }
+    None
+}
+
+/// A line whose words after its first one may be rules: one at least, and none twice.
+fn rules_line(text: &[u8]) -> RecordedLine
+    ensures line { result ≡ rules_of (words text.now) }
+    ensures range { IsLineInRange result }
+{
+    let mut rules = NO_RULES;
+    let mut rest = text;
+    while let Some((word, after)) = first_word(rest) {
+        let Some(more) = with_rule(rules, word) else {
+            return RecordedLine::Unreadable;
+        };
+        rules = more;
+        rest = after;
+    }
+    if rules == NO_RULES {
+        return RecordedLine::Unreadable;
+    }
+    RecordedLine::Rules { rules }
+}
+
+/// A line that may be a scheduler's number and an operation, or `rules` and rules.
 fn addressed_line(text: &[u8]) -> RecordedLine
     ensures line { result ≡ addressed (words text.now) }
     ensures range { IsLineInRange result }
@@ -51,6 +100,9 @@ fn addressed_line(text: &[u8]) -> RecordedLine
     let Some((word, rest)) = first_word(text) else {
         return RecordedLine::Unreadable;
     };
+    if word == b"rules".as_slice() {
+        return rules_line(rest);
+    }
     let Some(scheduler) = scheduler(word) else {
         return RecordedLine::Unreadable;
     };
