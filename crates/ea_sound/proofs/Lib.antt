@@ -23,6 +23,7 @@ pub mod Created
 pub mod Staying
 pub mod FewBlocks
 pub mod Due
+pub mod Counts
 pub mod MainCarriers
 pub mod LargestGaps
 -- One moment: what follows of a state from what every moment keeps.
