@@ -67,7 +67,8 @@ use Rattle.ea_sound.proofs.Chronicle.{CameTo}
 use Rattle.ea_sound.proofs.Operating.{listed-wanted}
 use Rattle.ea_sound.proofs.StillMoves.{keeps-operation, lists-goes}
 use Rattle.ea_sound.proofs.FetchedFits.{fetched-number, fetched-there}
-use Rattle.ea_sound.proofs.Chronicle.{AndShown, Fetches, IsRefilled, Searches, SoFar, Takes, Underway}
+use Rattle.ea_sound.proofs.Chronicle.{AndShown, Fetches, IsRefilled, Searches, SoFar}
+use Rattle.ea_sound.proofs.Chronicle.{Takes, Underway}
 use Rattle.ea_sound.proofs.Chronicle.{asked-longer, further, placing-longer, way-asked, LeftBy}
 use Rattle.ea_sound.proofs.Chronicle.{OnWay, WentTo, left-longer, over-longer, pushed-longer}
 use Rattle.ea_sound.proofs.Chronicle.{name_in, held-longer, old-longer, seen-longer, HasOld}

@@ -1,5 +1,5 @@
--- A carrier that is due is a multiblock carrier that has blocks, where the count is 0, and stays due
--- when it comes into the hand.
+-- Where a carrier is due the count is 0, and it is a multiblock carrier that has blocks. It stays
+-- due when it comes into the hand.
 use Rattle.std.proofs.Common.{◌≡◌, ◌≢◌, ℕ, List, ◌∷◌, Bool, true, false, ◌&&◌, refl, sym, ap}
 use Rattle.std.proofs.Common.{◌∙◌, arith}
 use Rattle.std.specs.Prelude.{Option, Some, None, nat_le, not, sum_by}
@@ -73,7 +73,8 @@ due-in_hand s count x cs rising there due =
     let front = figures (x ∷ without_content x.number cs) in
     ap (λ used. due_by s count x used front.carriers_size)
     (sum-front (λ c. allocated c.blocks) x cs rising there)
-    ∙ ap (due_by s count x (figures cs).blocks_size) (sum-front (λ c. c.units) x cs rising there) ∙ due
+    ∙ ap (due_by s count x (figures cs).blocks_size)
+    (sum-front (λ c. c.units) x cs rising there) ∙ due
 
 -- a multiblock carrier that is found is among those of many blocks
 pub multi-found : (i : Instance) (n : ℕ) (x : Content) → IsOrderly i → x.kind ≡ Multi

@@ -161,7 +161,8 @@ module _ (e : Setup) (w : State) (me : ℕ) where
       → TellsNext (lightened e me vacant x g b).route
   lightened-tells true x g b =
       leaving-tells (owner_of x.number == me) (migration e) x g (dismissed x.number b)
-  lightened-tells false x g b = abandoned-tells (is_due e.settings b.instance.count b.instance.contents x) x g b
+  lightened-tells false x g b =
+      abandoned-tells (is_due e.settings b.instance.count b.instance.contents x) x g b
 
   after_release-tells : (g : Gone) (b : Actor) (o : Option Content)
       → TellsNext (after_release e me g b o).route

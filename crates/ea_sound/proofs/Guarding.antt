@@ -78,7 +78,8 @@ module _ (e : Setup) (w : State) (rule : Rule e w) (steady : AreSteady e w) (me 
 
   steady-at : (stage : Stage Content) → a.stage ≡ stage
       → IsSteadyStage e me a.instance.count a.instance.contents stage
-  steady-at stage now = subst (IsSteadyStage e me a.instance.count a.instance.contents) now (steady me).route
+  steady-at stage now =
+      subst (IsSteadyStage e me a.instance.count a.instance.contents) now (steady me).route
 
   is-one : (stage : Stage Content) → a.stage ≡ stage → stage ≢ Ended → is_scheduler e me ≡ true
   is-one stage now works = working-scheduler e w k me (λ z. works (sym now ∙ z))

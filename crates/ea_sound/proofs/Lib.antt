@@ -154,6 +154,7 @@ pub mod Completing
 -- Which carriers are created, and which abandoned.
 pub mod CreationsLeft
 pub mod DueCarriers
+pub mod HeldBack
 -- The rule at every moment, and what calls ask for in each reached state.
 pub mod RuleRuns
 pub mod Asked

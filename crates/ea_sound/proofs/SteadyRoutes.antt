@@ -54,14 +54,16 @@ module _ (e : Setup) (me : ℕ) where
   -- after a block was released from a carrier
   module _ (x : Content) (a : Actor) (order : OrderlyIf a) (c : ℕ)
       (there : content_of (employed a.instance) c ≡ Some x) where
-    abandoned-goes : (due : Bool) (g : Gone) → is_due e.settings a.instance.count a.instance.contents x ≡ due
+    abandoned-goes : (due : Bool) (g : Gone)
+        → is_due e.settings a.instance.count a.instance.contents x ≡ due
         → Goes a.next a.passed (abandoned_if due x g a)
     abandoned-goes false g due = (refl, refl, tt)
     abandoned-goes true g due = (refl, refl, in_hand) where
       orderly : IsOrderly a.instance
       orderly = elim (cases_Bool (migration e)) [
         | inl on ↦ order on
-        | inr off ↦ absurd (true≢false (sym due ∙ due-unmoved e a.instance.count a.instance.contents x off))
+        | inr off ↦ absurd (true≢false
+            (sym due ∙ due-unmoved e a.instance.count a.instance.contents x off))
       ]
 
       number : x.number ≡ c
@@ -78,7 +80,8 @@ module _ (e : Setup) (me : ℕ) where
         → Goes a.next a.passed (lightened e me vacant x g a)
     lightened-goes true g =
         leaving-goes (owner_of x.number == me) (migration e) x g (dismissed x.number a)
-    lightened-goes false g = abandoned-goes (is_due e.settings a.instance.count a.instance.contents x) g refl
+    lightened-goes false g =
+        abandoned-goes (is_due e.settings a.instance.count a.instance.contents x) g refl
 
   here-goes : (hand : Named) (g : Gone) (a : Actor) → OrderlyIf a
       → Goes a.next a.passed (release_here e me hand g a)

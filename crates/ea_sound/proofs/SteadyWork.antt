@@ -56,7 +56,8 @@ module _ (e : Setup) (me : ℕ) where
   -- the operation itself leaves the walk as it is
   abbrev pub Leaves : Option Node → List Node → Actor → Type 0
   Leaves next passed a = (a.next ≡ next) × (a.passed ≡ passed)
-      × IsSteadyStage e me a.instance.count a.instance.contents a.stage × (works_off a.stage ≡ false)
+      × IsSteadyStage e me a.instance.count a.instance.contents a.stage
+      × (works_off a.stage ≡ false)
 
   carried-leaves : (task : Task) (g : Gone) (next : Option Node) (passed : List Node)
       (a : Actor) (r : Option (Route Content)) → a.next ≡ next → a.passed ≡ passed
