@@ -161,7 +161,8 @@ plans-size i need p some e = record {
     | inl q ↦ inl q
     | inr q ↦ inr (
       q.0,
-      (place-none i.settings.rules.falling (wanted_pages i need) (runs i.first i.end (segments i.own))).0
+      (place-none i.settings.rules.falling (wanted_pages i need)
+          (runs i.first i.end (segments i.own))).0
           (subst IsNone (sym q.1) refl),
     )
   ];

@@ -32,8 +32,8 @@ use Rattle.ea_model.specs.Instance.{Instance, changing, chosen_spot, content_of,
 use Rattle.ea_model.specs.Instance.{created_content, created_single, creating, creating_single}
 use Rattle.ea_model.specs.Instance.{employed, first_number, has_content, is_used, main_content}
 use Rattle.ea_model.specs.Instance.{new_instance, own_at, own_of, placing_at, plan, planned_own}
-use Rattle.ea_model.specs.Instance.{releasing_at, resized_in, resized_more, segment_of, with_content}
-use Rattle.ea_model.specs.Instance.{with_own, without_own}
+use Rattle.ea_model.specs.Instance.{releasing_at, resized_in, resized_more, segment_of}
+use Rattle.ea_model.specs.Instance.{with_content, with_own, without_own}
 use Rattle.ea_model.proofs.First.{first-All}
 use Rattle.ea_model.proofs.Options.{if_some, some_holds, some_map}
 use Rattle.ea_model.proofs.Pairs.{pairs_head, pairs_map, pairs_nil, pairs_tail}
