@@ -39,14 +39,12 @@ fn highest_start(pages: u32, first: u32, end: u32, taken: &[Segment]) -> Option<
     ensures { result ≡ highest_end pages (runs first end taken.now) }
 {
     let mut upto = end;
-    let mut left = taken;
-    while let [before @ .., segment] = left {
+    for segment in taken.iter().rev() {
         let from = segment.base + segment.pages;
         if holds(pages, from, upto) {
             return Some(upto - pages);
         }
         upto = segment.base;
-        left = before;
     }
     if holds(pages, first, upto) {
         Some(upto - pages)
