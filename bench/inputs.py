@@ -16,7 +16,8 @@ carriers of each scheduler, of 4096 kB in all for blocks of one size, and of 716
 FOLDER/operations and in FOLDER/carriers are for carriers of any size. Those in FOLDER/alone are of several schedulers of
 which the first one does all, by a schedule and as threads, for an acul of 60 and carriers of one page. Those in
 FOLDER/idle are of schedulers that do nothing, for no other flag. Those in FOLDER/types are of two allocator types with
-the same work, H and B, and of each of these alone, by a schedule and as threads, for +MMscs 256.
+the same work, H and B, and of each of these alone, by a schedule and as threads, for +MMscs 256. Those in FOLDER/steps
+are by single turns, one of each scheduler after another, for an acul of 60.
 """
 import itertools
 import os
@@ -66,6 +67,9 @@ SPREAD = {"equal": (13_056, 312, 312), "random": (13_600, LEAST, 1000)}
 # That many blocks of 78 units fill 512 MB, but for headers of carriers and what is left at their ends.
 SMALL_BLOCKS = 857_600
 SMALL_BLOCK = 616
+# Blocks of all schedulers whose steps are told, and after these frees and allocations of a scheduler, in pairs.
+TOLD_BLOCKS = 10_000
+TOLD_PAIRS = 69_000
 # Twenty blocks of that many bytes fill a carrier of 256 kB to its end.
 TWENTIETH = 13096
 
@@ -445,6 +449,34 @@ def wanted_back():
     yield "was-away", wanted([*two, wait, *large], {OF_4096: four}, opening, LESS_OF_A_CARRIER)
 
 
+def in_turn(sections, schedulers, count):
+    """These sections by `count` turns of each scheduler, one of each after another."""
+    return sections + "schedule\n" + f"{' '.join(map(str, range(1, schedulers + 1)))}\n" * count + "end\n"
+
+
+def crowded_steps(schedulers, blocks, pairs):
+    """Each scheduler allocates its part of `blocks`; then it frees a random one and allocates another, `pairs` times. The
+    turns are as many as it takes to search all numbers three times, in which each carrier is created."""
+    pick, names, held, texts = random.Random(10), itertools.count(1), blocks // schedulers, []
+    for _ in range(schedulers):
+        text, there = [], []
+        for done in range(held + pairs):
+            if done >= held:
+                at = int(pick.random() * held)
+                there[at], there[-1] = there[-1], there[at]
+                text.append(f"free {there.pop()}\n")
+            there.append(next(names))
+            text.append(f"alloc {there[-1]} {LEAST + int(pick.random() * (1000 - LEAST))}\n")
+        texts.append(text)
+    return in_turn(sections_of(texts), schedulers, held + 3 * pairs + 3 * (NUMBERS * schedulers + 1))
+
+
+def tries_in_turn():
+    """Two schedulers that look for blocks in turn, as often as the most bytes of an input allow."""
+    texts = [[f"take {me} {MOST_TRIES}\n", f"alloc {3 - me} 8\n", f"give {3 - me} {3 - me}\n"] for me in (1, 2)]
+    return filled_up(sections_of(texts) + "schedule\n", "1 2\n", "\n", "end\n")
+
+
 def alone():
     """What the first of several schedulers does while the others do nothing, for carriers of one page: searches of all
     numbers in vain, each with a carrier that is created and goes; pairs of an alloc and a free in a carrier that stays;
@@ -550,6 +582,8 @@ def main(folder):
         "migrating/searching": searching(OF_4096, 100_000) + CLOSING,
         "migrating/abandoned": abandoned(SCHEDULERS, 100_000, 250),
         "migrating/staying": mixed(200000, 8, SMALL, 2),
+        "steps/crowded": crowded_steps(OF_4096, TOLD_BLOCKS, TOLD_PAIRS),
+        "steps/tries": tries_in_turn(),
         "strategies/filled": crowded(5600, 5000, 8000, 15000, 0),
         "strategies/changing": crowded(5600, 5000, 8000, 15000, 5000),
         "strategies/equal-filled": crowded(5120, 4600, TWENTIETH, TWENTIETH, 0),

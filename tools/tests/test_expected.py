@@ -84,7 +84,7 @@ class Words(unittest.TestCase):
 
     def test_words_of_run_that_are_no_flags(self):
         """A command may come first, and a file last."""
-        said, any_word = "word 1: unknown flag", "a command (types super contents histogram recorded), a flag, or a file that is there"
+        said, any_word = "word 1: unknown flag", "a command (types super contents histogram recorded steps), a flag, or a file that is there"
         for words, wanted in (
             ("record +S 2", f"{any_word}; near 'record' is recorded"),
             ("MHas bf", f"{any_word}; near 'MHas' is +MHas"),
@@ -129,6 +129,15 @@ class Lines(unittest.TestCase):
         self.check("line 2: syntax", "a scheduler and its operation, as `2 alloc 7 100`, or `end`", "type H", "alloc 1 1",
                    words="recorded")
         self.check("line 2: syntax", "a scheduler and `free NAME`, NAME 1 to 1048576", "type H", "1 free", words="recorded")
+
+    def test_rules_of_recorded_operations(self):
+        for line in "rules", "rules powers powers", "rules tree", "Rules powers":
+            self.check("line 2: syntax", "`rules`, and of powers falling counter one or more, each once", "type H", line,
+                       words="recorded")
+        for line in "1 idle", "rules falling":
+            self.check("line 3: syntax", "`rules` once, directly after the `type` line", "type H", line, "rules powers",
+                       words="recorded")
+        self.check("line 1: syntax", "`type X` first, of B D E H L R S T", "rules powers", "type H", words="recorded")
 
     def test_one_shared_region(self):
         head = "super", "scheduler 1"

@@ -635,6 +635,59 @@ class Histograms(Case):
             self.refused(said, "--trace", trace, "--histograms", self.path("a.svg"))
 
 
+class Steps(Case):
+    def steps(self, *words):
+        self.draw("--steps", self.path("a.html"), *words)
+        return data_in(self.read("a.html"))
+
+    def lanes(self, data):
+        """The words of each carrier in their order, with the line from which each holds."""
+        named = lambda at, kind, instance: (data["lines"][at].split()[0], data["words"][kind], instance)
+        return {it["number"]: [named(*span) for span in it["spans"]] for it in data["lanes"]}
+
+    def test_a_carrier_that_two_want(self):
+        """Both are left in the pool; scheduler 2 fetches one of them between the look and the try of scheduler 3."""
+        data = self.steps(*self.example("lost-fetch"))
+        self.assertEqual(self.lanes(data), {
+            1: [("3074", "employed", 1), ("6153", "pooled", 1), ("12306", "employed", 3)],
+            2: [("6149", "employed", 1), ("6156", "pooled", 1), ("12302", "employed", 2)]})
+        self.assertEqual([data["lines"][at] for at in data["lost"]], ["12303 3 3073 fetch_try 2 lost employed 2"])
+        self.assertEqual(data["schedulers"], 3)
+
+    def test_a_carrier_that_stays_busy_and_one_that_returns(self):
+        data = self.steps(*self.example("left-busy"))
+        self.assertEqual(self.lanes(data)[2][-1][1:], ("busy", 1))
+        data = self.steps(*self.example("returned-carrier"))
+        self.assertEqual([it[1:] for it in self.lanes(data)[1]][-4:],
+                         [("busy", 2), ("employed", 2), ("returning", 1), ("absent", 0)])
+
+    def test_a_main_carrier_is_there_from_the_start(self):
+        data = self.steps("--trace", self.trace("alloc 1 100"), "--", "+MHmmbcs", "512", "+MHacul", "0")
+        self.assertEqual(self.lanes(data), {1: [("1", "employed", 1)]})
+        self.assertEqual(data["done"]["0"], ["log 1 alloc 1 1 8 14"])
+
+    def test_a_look_at_a_number_without_a_carrier(self):
+        """Two schedulers look in turn, so each look has a line. A carrier that never comes has no lane."""
+        trace = self.sections([["alloc 1 8"], ["alloc 2 8"]], "schedule", "1 2 1 2 1 2")
+        data = self.steps("--trace", trace, "--", "+S", "2")
+        looks = ["3 1 2 look 2048 absent", "4 2 2 look 2048 absent", "5 1 3 look 2047 absent"]
+        self.assertEqual(data["lines"][2:5], looks)
+        self.assertEqual([it["number"] for it in data["lanes"]], [1, 1025])
+
+    def test_sixteen_schedulers(self):
+        sections = [[f"alloc {number} 2000"] for number in range(1, 17)]
+        trace = self.sections(sections, "schedule")
+        data = self.steps("--trace", trace, "--", "+S", "16", "+MHacul", "0")
+        self.assertEqual((data["schedulers"], len(data["lanes"]), len(data["lines"])), (16, 16, 32))
+
+    def test_what_is_refused(self):
+        words = "--steps", self.path("a.html")
+        trace = self.write("a.trace", "type H\nscheduler 1\nthreads\nend\n")
+        self.refused(f"{trace}: schedule wanted", "--trace", trace, *words)
+        trace = self.write("a.trace", "type H\n1 alloc 1 8\nend\n")
+        self.refused(f"{trace}: --steps draws those of a trace, and this is an input of `recorded`", "--trace", trace, *words)
+
+
 class Interrupts(Case):
     def test_signals_end_its_runs_at_once(self):
         """Also what a run has started: it does not come to its end."""
@@ -707,6 +760,18 @@ class Recorded(Case):
         for words in [], ["--", "recorded", "+MHacul", "0"]:
             self.assertEqual(self.data("--trace", trace, *words)["schedulers"], 2)
 
+    def test_by_rules_of_a_node(self):
+        """Runs of the first operations, too: the second carrier, which is gone at the end, has 256 pages before page 64."""
+        lines = ["1 alloc 1 200000", "1 alloc 2 200000", "1 free 2"]
+        trace = self.write("a.input", "\n".join(["type H", "rules powers", *lines, "end", ""]))
+        data = self.data("--trace", trace, "--", "+MHacul", "0")
+        self.assertEqual((data["rules"], spans_of(data, 2)), (["rules powers"], [(2, 64, 256)]))
+        self.assertIn(" · rules powers · carriers 2 · ", self.svg(trace, 2, "+MHacul", "0"))
+        trace = self.write("b.input", "\n".join(["type H", *lines, "end", ""]))
+        data = self.data("--trace", trace, "--", "+MHacul", "0")
+        self.assertEqual((data["rules"], spans_of(data, 2)), ([], [(2, 64, 186)]))
+        self.assertNotIn("rules", self.svg(trace, 2, "+MHacul", "0"))
+
     def test_of_more_schedulers_than_have_operations(self):
         trace = self.write("a.input", "type H\n1 alloc 1 100\nend\n")
         data = self.data("--trace", trace, "--", "+S", "4")
@@ -762,7 +827,7 @@ class Refusals(Case):
 
     def test_words(self):
         trace = self.trace("idle")
-        same = ("--svg", "x", "--output", "x"), ("--svg", "x", "--histograms", "x"), ("--histograms", trace)
+        same = ("--svg", "x", "--output", "x"), ("--svg", "x", "--histograms", "x"), ("--histograms", trace), ("--steps", trace)
         for words in ((), ("--output", trace), ("--output", "x", "--at", "1"), *same):
             ran = self.run_tool("--trace", trace, *words)
             self.assertEqual((ran.returncode, ran.stdout), (2, ""))
@@ -897,6 +962,14 @@ class Browser(Case):
             return at("picture").dataset.blocks + " " + at("picture").dataset.queued;
         }).join(", ")"""
         self.assertEqual(self.said("a.html", "", script), "3 0, 3 1, 1 0")
+
+    def test_a_page_of_steps(self):
+        """It opens at the step of its address, and tells what that did."""
+        self.draw(*self.example("lost-fetch"), "--steps", self.path("a.html"))
+        line = next(at for at, it in enumerate(data_in(self.read("a.html"))["lines"]) if "fetch_try 2 won" in it)
+        dom = self.browse(self.path("a.html"), f"#step={line}", "--dump-dom")
+        told = re.search(r'<div id="told"[^>]*>(.*?)</div>', dom, re.S).group(1)
+        self.assertEqual(told, "<b>12302 2 3073 fetch_try 2 won</b>\nlog 2 alloc 5 2 8 252")
 
     def test_pointing_and_keys(self):
         """Block 2 of 14 units lies at offset 22, so its middle is at 29 of the 512 units of its carrier."""

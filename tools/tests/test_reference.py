@@ -18,7 +18,7 @@ from counted import run_tests
 
 PROGRAM = os.path.abspath(sys.argv.pop(1)) if len(sys.argv) > 1 else None
 SECTIONS = {"types": "Several allocator types", "super": "One shared region", "recorded": "Recorded operations",
-            "histogram": "Histograms", "contents": "Contents of blocks"}
+            "histogram": "Histograms", "contents": "Contents of blocks", "steps": "The steps of a run"}
 CODE = r"`([^`]+)`"
 
 
@@ -72,12 +72,13 @@ class Examples(unittest.TestCase):
             shown = section("commands.md", SECTIONS[command])
             self.assert_text([command, *words_of(shown)], *blocks(shown)[:2])
 
-    def test_histograms(self):
-        shown = section("commands.md", SECTIONS["histogram"])
-        body = re.findall(CODE, re.search(r"The body (.*) gives", shown)[1])
-        lines = ["type H", "scheduler 1", *body, "schedule", "end"]
-        self.assertEqual(len(lines), 10)
-        self.assert_text(["histogram", *words_of(shown)], "\n".join(lines), blocks(shown)[0])
+    def test_texts_of_bodies(self):
+        for command, count in (("histogram", 6), ("steps", 2)):
+            shown = section("commands.md", SECTIONS[command])
+            body = re.findall(CODE, re.search(r"The body (.*) gives", shown)[1])
+            self.assertEqual(len(body), count)
+            lines = ["type H", "scheduler 1", *body, "schedule", "end"]
+            self.assert_text([command, *words_of(shown)], "\n".join(lines), blocks(shown)[0])
 
     def test_generated(self):
         shown = section("output.md", "The text of a generated trace")
@@ -101,6 +102,27 @@ class Examples(unittest.TestCase):
         for command in ("types", "super", "recorded", "contents"):
             shown = found.search(section("commands.md", SECTIONS[command]))
             self.assert_refused([command, *(shown[2] or "").split()], re.findall(CODE, shown[1]), shown[3])
+
+    def test_rules(self):
+        """The carriers of each row, and the count of the example below."""
+        shown = section("commands.md", "Rules of a node")
+        asked, flags = re.search(r"\| ((?:`[^`|]+`(?:, )?)+) under `([^`|]+)` \|\n", shown).groups()
+        rows = re.findall(r"^\| (none|`\w+`) \|.*\| ([^|]*) \|$", shown, re.M)
+        self.assertEqual([it[0] for it in rows], ["none", "`powers`", "`falling`"])
+        for rule, places in rows:
+            text = self.run_recorded(re.findall(CODE, asked), flags.split(), rule.strip("`"))
+            self.assertEqual(re.findall(r"base \d+ pages \d+", text), re.findall(CODE, places))
+        asked, rule, kept, gone = re.search(
+            r"After (.*) with `rules (\w+)` it is 990, and carrier 1 is `([^`]+)`, without the line `([^`]+)`", shown).groups()
+        for it, standing in ((rule, kept), ("none", gone)):
+            text = self.run_recorded(re.findall(CODE, asked), [], it)
+            self.assertIn(f"carrier 1 multi owner 1 {standing} base", text)
+
+    def run_recorded(self, lines, words, rule):
+        lines = ["type H", *([] if rule == "none" else [f"rules {rule}"]), *lines, "end"]
+        status, text, said = self.run_program(["recorded", *words], "".join(f"{it}\n" for it in lines))
+        self.assertEqual((status, said), (0, ""))
+        return text
 
     def test_pages_of_carriers(self):
         """Each block leaves a page of its carrier, so the next one is created with one more in use."""
@@ -130,7 +152,7 @@ class Files(unittest.TestCase):
         self.assertEqual((status, said, lines[:2], len(lines)), (0, "", ["type B", "scheduler 1"], 13))
         status, said, lines = self.load("record", "--type", "B", "--recorded")
         self.assertEqual((status, said), (0, ""))
-        self.assertEqual(lines, ["type B", "1 alloc 1 86", "1 realloc 1 2 538", "1 give 2 2", "2 take 2 1", "2 free 2", "end"])
+        self.assertEqual(lines, ["type B", "rules powers falling counter", "1 alloc 1 86", "1 realloc 1 2 538", "1 give 2 2", "2 take 2 1", "2 free 2", "end"])
 
 
 if __name__ == "__main__":

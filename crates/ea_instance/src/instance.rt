@@ -41,9 +41,9 @@ use ea_employed::{Carriers, Employed, Found, Singles};
 use ea_mbc::{Mbc, Spare};
 use ea_model::keyed::item_of;
 use ea_model::{
-    Block, CarrierLine, CarrierPlan, Decision, Figures, HEADER_UNITS, Kind, NUMBERS, NoCarrier,
-    MIN_POWER_PAGES, OutOfMemory, PAGE_UNITS, Place, RELEASED_COUNT, RESIZED_COUNT, Settings, Spot,
-    UNIT_BYTES, Where, first_number, least_pages, pages_for,
+    Block, CarrierLine, CarrierPlan, Decision, Figures, HEADER_UNITS, Kind, MIN_POWER_PAGES,
+    NUMBERS, NoCarrier, OutOfMemory, PAGE_UNITS, Place, RELEASED_COUNT, RESIZED_COUNT, Settings,
+    Spot, UNIT_BYTES, Where, first_number, least_pages, pages_for,
 };
 use ea_resize::decide;
 use ea_sbc::Sbc;

@@ -17,7 +17,6 @@ use Rattle.ea_mbc.specs.Walks.{free_of}
 use Rattle.ea_laws.proofs.BlockLists.{block_at-past}
 use Rattle.ea_laws.proofs.Tiling.{Tiled-allocated}
 use Rattle.ea_laws.proofs.Chosen.{gap_none}
-use Rattle.ea_mbc.proofs.Greatest.{largest-append, largest-gap}
 use Rattle.ea_mbc.proofs.Stepping.{Headed, Coded-Headed, Stepped, stepped}
 
 -- where a walk is, and what is so of the place and of the blocks from there on

@@ -3,6 +3,7 @@ pub mod Gaps
 pub mod Index
 pub mod Indexed
 pub mod Layout
+pub mod Named
 pub mod Parts
 pub mod Spares
 pub mod Tagged

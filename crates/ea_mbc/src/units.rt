@@ -1,6 +1,6 @@
 //! The units of a carrier, with its tags, the names of its blocks and what finds its gaps.
 ghost use Rattle.std.specs.Prelude.{◌≡◌, ◌≢◌, ℕ, ◌+◌, ◌-◌, ◌%◌, ◌<◌, ◌≤◌, ◌↔◌, [], All};
-ghost use Rattle.std.specs.Prelude.{Some, IsTrue, IsSome, IfOk, length};
+ghost use Rattle.std.specs.Prelude.{Some, IsTrue, IsSome, IfOk, length, true};
 ghost use Rattle.ea_model.specs.declared.units.TheConstants.{HEADER_UNITS, MAX_UNITS};
 ghost use Rattle.ea_model.specs.declared.units.TheConstants.{MIN_BLOCK};
 ghost use Rattle.ea_model.specs.Content.{gaps, gap_at, gap_up_to, block_at, end_of, size_of};
@@ -29,6 +29,8 @@ pub struct CarrierUnits {
     names: PagedArray,
     index: GapIndex,
     end: u32,
+    /// That no block is called 0. Where it is false, one may be.
+    all_named: bool,
 }
 
 impl Model for CarrierUnits {
@@ -38,6 +40,7 @@ impl Model for CarrierUnits {
     ghost use Rattle.ea_mbc.specs.Coding.{blocks_of, IsCoded};
     ghost use Rattle.ea_mbc.specs.Indexed.{Indexed};
     ghost use Rattle.ea_mbc.specs.Layout.{Layout};
+    ghost use Rattle.ea_mbc.specs.Named.{AreNamed};
 
     ghost Value = { Layout };
 
@@ -48,7 +51,18 @@ impl Model for CarrierUnits {
           × (u.end ≤ MAX_UNITS);
       indexed : Indexed u.end u.index
           (gaps HEADER_UNITS u.end (blocks_of u.tags u.names u.end));
+      named : AreNamed u.all_named (blocks_of u.tags u.names u.end);
     } };
+}
+
+/// Whether all names are other than 0, if those were and this is one more.
+fn named_with(all_named: bool, name: u32) -> bool
+    ensures { result ≡ true → (all_named ≡ true) × (1 ≤ name) }
+{
+    if name == 0 {
+        return false;
+    }
+    all_named
 }
 
 impl CarrierUnits {
@@ -69,6 +83,7 @@ impl CarrierUnits {
             names,
             index,
             end,
+            all_named: true,
         })
     }
 
@@ -161,7 +176,7 @@ impl CarrierUnits {
         false
     }
 
-    /// Whether a block begins at the offset. Only one that is called 0 has to be looked for.
+    /// Whether a block begins at the offset. It is looked for only where one may be called 0.
     fn begins(&self, offset: u32) -> bool
         ensures { IsTrue result ↔ IsSome (block_at self.now.blocks offset) }
     {
@@ -173,6 +188,9 @@ impl CarrierUnits {
         }
         if self.names.get(offset / 2) != 0 {
             return true;
+        }
+        if self.all_named {
+            return false;
         }
         self.has_header(offset)
     }
@@ -261,6 +279,7 @@ impl CarrierUnits {
         ensures end { self.new.end ≡ self.old.end }
         ensures blocks { self.new.blocks ≡ inserted block self.old.blocks }
     {
+        self.all_named = named_with(self.all_named, block.name);
         let end = self.end;
         let stop = block.offset + gap;
         lay(&mut self.tags, &mut self.names, end, block, stop, false);
@@ -313,6 +332,7 @@ impl CarrierUnits {
             (λ b. record { name = block.name; offset = b.offset; size = block.size })
             block.offset self.old.blocks }
     {
+        self.all_named = named_with(self.all_named, block.name);
         let was = self.tags.header(block.offset);
         lay(
             &mut self.tags,
@@ -339,6 +359,7 @@ impl CarrierUnits {
               size = size_of (block_at self.old.blocks offset);
             }) offset self.old.blocks }
     {
+        self.all_named = named_with(self.all_named, name);
         self.names.set(offset / 2, name);
     }
 }

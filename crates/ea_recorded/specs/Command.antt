@@ -13,8 +13,9 @@ use Rattle.ea_recorded.specs.Language.{Recorded, recorded}
 use Rattle.ea_recorded.specs.Order.{EndsLines}
 use Rattle.ea_recorded.specs.Output.{IsRecordedText}
 
--- an input asks that a trace be run by its lines in their order, and has the text of that run; each
--- run of a trace by any rules keeps the protocol, and the turns that each line is given at most suffice
+-- an input asks that a trace be run by its lines in their order, and has the text of that run; by
+-- whatever rules, each run of a trace keeps the protocol, and the turns that each line is given at
+-- most suffice
 abbrev pub recorded_traces : Language
 recorded_traces = record {
   Request = Recorded;
@@ -22,7 +23,6 @@ recorded_traces = record {
   runs = λ asked. true;
   Gives = λ c asked text. IsRecordedText c asked text;
   Promises = λ c. (r : Rules) (t : Trace) → IsValidTrace c.schedulers t
-      → Protocol (setup_of (by_rules r c) t)
-      × ((lines : List ℕ) → EndsLines (setup_of (by_rules r c) t)
-      (start (setup_of (by_rules r c) t)) lines);
+      → (let setup = setup_of (by_rules r c) t in
+      Protocol setup × ((lines : List ℕ) → EndsLines setup (start setup) lines));
 }

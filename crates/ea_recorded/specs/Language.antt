@@ -2,11 +2,14 @@
 -- (`trace_lines`), and what is refused. A line is the list of its words. A line of the trace that
 -- isn't in the input has the number 0 in `trace_lines`. It is never refused; no clause says so.
 -- This simulator's own: the sources do not speak of it.
-use Rattle.std.specs.Prelude.{ℕ, zero, suc, ◌+◌, ◌-◌, ◌==◌, Bool, true, false, ◌||◌, not}
+use Rattle.std.specs.Prelude.{ℕ, zero, suc, ◌+◌, ◌-◌, ◌==◌, Bool, true, false, ◌&&◌, ◌||◌, not}
 use Rattle.std.specs.Prelude.{if◌then◌else◌, List, [], ◌∷◌, ◌++◌, Option, None, Some, Result, Ok, Err}
-use Rattle.std.specs.Prelude.{◌&&◌, bytes_eq, codes, decimal, filter, map, slice_index_or}
+use Rattle.std.specs.Prelude.{bytes_eq, codes, decimal, filter, map, option_and_then}
+use Rattle.std.specs.Prelude.{slice_index_or}
+use Rattle.std.specs.Option.{option_map_or}
 use Rattle.ea_model.specs.declared.settings.Letter.{Letter}
 use Rattle.ea_model.specs.declared.settings.Rules.{Rules}
+use Rattle.ea_model.specs.declared.settings.TheConstants.{NO_RULES}
 use Rattle.ea_model.specs.declared.trace.Trace.{Trace}
 use Rattle.ea_trace.specs.Language.{Answer, LineWords, WordLines, gives_outside, is_outside}
 use Rattle.ea_trace.specs.Language.{lines_of, trace_of}
@@ -28,7 +31,7 @@ operation_by (Some i) (said.Operation op) = line.Operation i op
 operation_by (Some i) other = line.Unreadable
 operation_by None other = line.Unreadable
 
--- rules and the one of a word, if it is a rule and none of them
+-- these rules and that of a word, if it is a rule and none of them
 abbrev pub with_rule : Rules → List ℕ → Option Rules
 with_rule r w =
     if bytes_eq w (codes "powers") && not r.powers then Some (record r { powers = true }) else (
@@ -36,19 +39,15 @@ with_rule r w =
     if bytes_eq w (codes "counter") && not r.counter then Some (record r { counter = true }) else
     None))
 
--- no rule: what holds where no line sets one
-abbrev pub no_rules : Rules
-no_rules = record { powers = false; falling = false; counter = false }
+-- these rules and those of words, if each is a rule and none stands twice
+abbrev pub with_rules : Rules → LineWords → Option Rules
+with_rules r [] = Some r
+with_rules r (w ∷ ws) = option_and_then (λ more. with_rules more ws) (with_rule r w)
 
--- the rules of the words after `rules`: one at least, and none twice
-unfoldable pub rules_after : Option Rules → LineWords → RecordedLine
-rules_after None ws = line.Unreadable
-rules_after (Some r) [] = line.Rules r
-rules_after (Some r) (w ∷ ws) = rules_after (with_rule r w) ws
-
+-- what words after `rules` say: one rule at least
 abbrev pub rules_of : LineWords → RecordedLine
 rules_of [] = line.Unreadable
-rules_of (w ∷ ws) = rules_after (Some no_rules) (w ∷ ws)
+rules_of (w ∷ ws) = option_map_or line.Rules (with_rules NO_RULES (w ∷ ws)) line.Unreadable
 
 abbrev pub addressed : LineWords → RecordedLine
 addressed [] = line.Unreadable
@@ -86,8 +85,8 @@ is_bad n other = false
 abbrev pub next : Stage → RecordedLine → Stage
 next at.Start (line.Letter x) = at.Typed x
 next (at.Typed x) (line.Rules r) = at.Lines x r
-next (at.Typed x) (line.Operation i op) = at.Lines x no_rules
-next (at.Typed x) line.End = at.Ended x no_rules
+next (at.Typed x) (line.Operation i op) = at.Lines x NO_RULES
+next (at.Typed x) line.End = at.Ended x NO_RULES
 next (at.Lines x r) line.End = at.Ended x r
 next stage other = stage
 

@@ -1,7 +1,8 @@
 //! What one line of recorded operations says, by itself.
 ghost use Rattle.std.specs.Prelude.{◌≡◌};
 ghost use Rattle.ea_model.specs.Words.{words};
-ghost use Rattle.ea_recorded.specs.Language.{addressed, line_of, rules_of, with_rule};
+ghost use Rattle.ea_model.specs.declared.settings.TheConstants.{NO_RULES};
+ghost use Rattle.ea_recorded.specs.Language.{addressed, line_of, rules_of, with_rule, with_rules};
 ghost use Rattle.ea_recorded.specs.Told.{IsLineInRange};
 
 use ea_model::words::first_word;
@@ -47,7 +48,7 @@ pub struct OwnLine {
     pub op: Op,
 }
 
-/// These rules and the one of a word, if it is a rule and none of these.
+/// These rules and that of a word, if it is a rule and none of them.
 fn with_rule(rules: Rules, word: &[u8]) -> Option<Rules>
     ensures { result ≡ with_rule rules word.now }
 {
@@ -72,24 +73,31 @@ fn with_rule(rules: Rules, word: &[u8]) -> Option<Rules>
     None
 }
 
-/// A line whose words after its first one may be rules: one at least, and none twice.
-fn rules_line(text: &[u8]) -> RecordedLine
-    ensures line { result ≡ rules_of (words text.now) }
-    ensures range { IsLineInRange result }
+/// The rules of the words of a text, if each is a rule and none stands twice.
+fn rules_in(text: &[u8]) -> Option<Rules>
+    ensures { result ≡ with_rules NO_RULES (words text.now) }
 {
     let mut rules = NO_RULES;
     let mut rest = text;
     while let Some((word, after)) = first_word(rest) {
-        let Some(more) = with_rule(rules, word) else {
-            return RecordedLine::Unreadable;
-        };
-        rules = more;
+        rules = with_rule(rules, word)?;
         rest = after;
     }
-    if rules == NO_RULES {
+    Some(rules)
+}
+
+/// A line of rules, by the text after `rules`, which has one word at least.
+fn rules_line(text: &[u8]) -> RecordedLine
+    ensures line { result ≡ rules_of (words text.now) }
+    ensures range { IsLineInRange result }
+{
+    if first_word(text).is_none() {
         return RecordedLine::Unreadable;
     }
-    RecordedLine::Rules { rules }
+    match rules_in(text) {
+        Some(rules) => RecordedLine::Rules { rules },
+        None => RecordedLine::Unreadable,
+    }
 }
 
 /// A line that may be a scheduler's number and an operation, or `rules` and rules.

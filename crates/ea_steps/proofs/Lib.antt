@@ -13,6 +13,7 @@ pub mod TouchedNames
 pub mod TouchedBlocks
 pub mod ReleasedBlocks
 pub mod ByName
+pub mod Releasing
 -- Which carriers come, go and shrink by a step.
 pub mod CarrierWeights
 pub mod KeptCarriers
@@ -28,7 +29,14 @@ pub mod ToldCarriers
 pub mod ShrunkCarriers
 pub mod ByNumber
 pub mod TellingCarriers
-pub mod Printing
-pub mod Showing
+pub mod MadeNumbers
 -- What is noted of a step before it.
 pub mod NotedNames
+-- What is told of it, and of a whole run.
+pub mod ToldChanges
+pub mod Printing
+pub mod Showing
+pub mod Tellings
+pub mod ToldLines
+pub mod ToldRuns
+pub mod Traces

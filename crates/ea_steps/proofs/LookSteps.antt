@@ -95,7 +95,7 @@ pub record LooksFrom (e : Setup) (w : State) (me count : ℕ) : Type 0 where
   pub uncounted : (j : ℕ) → j < count → counts (word_of (w.shared.places (at - j))) ≡ false
 
 module _ (e : Setup) (me : ℕ) where
-  abbrev after_looks : State → ℕ → State
+  abbrev pub after_looks : State → ℕ → State
   after_looks w j = run_on e w (replicate j me)
 
   module _ (w : State) (count : ℕ) (looks : LooksFrom e w me count) (j : ℕ)

@@ -1,10 +1,12 @@
 -- A run while its steps are told: those that were taken by some turns, the next one of a scheduler
 -- (`step_after`), and those that follow until it has ended or is stopped.
-use Rattle.std.specs.Prelude.{◌≡◌, ◌≢◌, ℕ, ◌+◌, ◌<◌, false, List, ◌++◌, Some, get_or, length, replicate}
+use Rattle.std.specs.Prelude.{◌≡◌, ◌≢◌, ℕ, ◌+◌, ◌-◌, ◌<◌, false, List, ◌++◌, Some, get_or, length, replicate}
 use Rattle.ea_machine.specs.Completion.{finishing}
+use Rattle.ea_machine.specs.Machine.{run_on}
 use Rattle.ea_machine.specs.Setup.{Setup}
 use Rattle.ea_machine.specs.Stops.{cut, left_after, run_with_stops, up_to}
 use Rattle.ea_sound.specs.Turns.{is_ended}
+use Rattle.ea_steps.specs.Groups.{Group}
 use Rattle.ea_steps.specs.Steps.{Step, own_count, step_of, steps_of}
 use Rattle.ea_steps.specs.declared.counts.Counts.{Counts}
 
@@ -17,6 +19,16 @@ module _ (setup : Setup) (turns : List ℕ) where
   abbrev pub step_after : ℕ → Step
   step_after me = step_of setup (run_with_stops setup turns) (length taken_steps)
       (own_count me taken_steps) me
+
+  -- the last of that many steps of it
+  abbrev pub last_after : ℕ → ℕ → Step
+  last_after me count = step_of setup
+      (run_on setup (run_with_stops setup turns) (replicate (count - 1) me))
+      (length taken_steps + (count - 1)) (own_count me taken_steps + (count - 1)) me
+
+  -- these steps
+  abbrev pub group_after : ℕ → ℕ → Group
+  group_after me count = record { first = step_after me; last = last_after me count }
 
   -- it takes one, since it has neither ended nor stopped
   abbrev pub TakesStep : ℕ → Type 0

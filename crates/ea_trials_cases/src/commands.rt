@@ -4,6 +4,7 @@ ghost use Rattle.std.specs.Prelude.{◌^◌, ◌<◌, length};
 use ea_contents::run_contents;
 use ea_hist::run_hist;
 use ea_recorded::run_recorded;
+use ea_steps::run_steps;
 use ea_super::run_super;
 use ea_top::run;
 use ea_trials_runs::{Case, NotRun, Ran, Streams, words_of};
@@ -51,6 +52,7 @@ pub fn run_case<R: Threads + Wait + Sync>(
         "recorded" => run_recorded(alloc, after, &mut source, &mut out, &mut err),
         "histogram" => run_hist(alloc, after, &mut source, &mut out, &mut err),
         "contents" => run_contents(alloc, after, &mut source, &mut out, &mut err),
+        "steps" => run_steps(alloc, after, &mut source, &mut out, &mut err),
         _ => run(rt, alloc, &words, &mut source, &mut out, &mut err),
     };
     Ok(Ran { status, out, err })

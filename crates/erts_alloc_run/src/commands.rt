@@ -17,6 +17,8 @@ pub enum Command {
     Histogram,
     /// `contents`: to run a trace with writes and reads of words of its blocks.
     Contents,
+    /// `steps`: to run a trace with a schedule, and to tell each of its steps.
+    Steps,
 }
 
 /// The command that the first word names; without such a word that of a trace.
@@ -37,6 +39,8 @@ pub fn command_of(words: &[String]) -> Command
         Command::Histogram
     } else if name == b"contents".as_slice() {
         Command::Contents
+    } else if name == b"steps".as_slice() {
+        Command::Steps
     } else {
         Command::Trace
     }

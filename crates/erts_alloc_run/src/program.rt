@@ -8,6 +8,7 @@ use ea_contents::run_contents;
 use ea_hist::run_hist;
 use ea_io::{Sink, Source};
 use ea_recorded::run_recorded;
+use ea_steps::run_steps;
 use ea_super::run_super;
 use ea_top::run;
 use ea_types::run_types;
@@ -48,5 +49,6 @@ pub fn run_program<R: Threads + Wait + Sync, S: Source, O: Sink, E: Sink>(
         Command::Recorded => run_recorded(alloc, after_first(words), source, out, err),
         Command::Histogram => run_hist(alloc, after_first(words), source, out, err),
         Command::Contents => run_contents(alloc, after_first(words), source, out, err),
+        Command::Steps => run_steps(alloc, after_first(words), source, out, err),
     }
 }

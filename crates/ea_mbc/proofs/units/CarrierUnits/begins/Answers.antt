@@ -1,5 +1,8 @@
-use Rattle.std.proofs.Common.{inl, inr, ◌∙◌, refl, arith}
+use Rattle.std.proofs.Common.{inl, inr, ◌≤◌, ◌∙◌, refl, subst, sym, arith}
+use Rattle.std.specs.Prelude.{All}
+use Rattle.ea_mbc.specs.Layout.{Layout}
 use Rattle.ea_mbc.proofs.Finding.{nothing-there, unnamed-IsCoded}
+use Rattle.ea_mbc.proofs.Naming.{none-named}
 use Rattle.ea_mbc.proofs.Seen.{seen}
 use Rattle.ea_mbc.proofs.Walking.{none-iff}
 use Rattle.ea_mbc.proofs.units.CarrierUnits.begins.Goals as goal
@@ -29,3 +32,10 @@ pub get-requires : goal.get-requires
 get-requires c =
     let s = seen _ _ _ c.args.self.now c.self.view_is c.self.invariant.coded in
     omega (arith, s.coded.half, s.same, c.if-offset-self.false)
+
+pub returns-then-self : goal.returns-then-self
+returns-then-self c =
+    let s = seen _ _ _ c.args.self.now c.self.view_is c.self.invariant.coded in
+    none-iff _ (none-named _ _ _ c.args.self.now c.args.offset s
+    (subst (λ (l : Layout). All (λ b. 1 ≤ b.name) l.blocks) c.self.view_is
+    (c.self.invariant.named c.if-self.true)) (sym c.get.ensures ∙ c.if-get-ne0.false))

@@ -1,6 +1,9 @@
 use Rattle.std.proofs.Common.{◌+◌, ◌-◌, sym, ap, ◌∙◌, subst, arith}
 use Rattle.ea_model.specs.Content.{inserted}
 use Rattle.ea_mbc.specs.Coding.{IsCoded}
+use Rattle.ea_mbc.specs.Layout.{Layout}
+use Rattle.ea_mbc.specs.Named.{AreNamed}
+use Rattle.ea_mbc.proofs.Naming.{named-inserted}
 use Rattle.ea_mbc.proofs.Reading.{blocks_of-coded, IsCoded-read}
 use Rattle.ea_mbc.proofs.Seen.{seen, gap-end, entered}
 use Rattle.ea_mbc.specs.Indexed.{HasSlot, put_in}
@@ -82,6 +85,10 @@ invariant_of-self c =
           (c.put.ensures
           ∙ ap (put_in (c.args.block.offset + c.args.block.size) (c.args.gap - c.args.block.size))
           c.take.ensures) e.indexed;
+      named = subst (AreNamed c.named_with-self-inside.result) (sym (blocks_of-coded _ _ _ _ (coded c)))
+          (named-inserted c.named_with-self-inside.result c.self.inside.all_named c.args.block
+          c.args.self.now.blocks c.named_with-self-inside.ensures (subst (AreNamed c.self.inside.all_named)
+          (ap (λ (l : Layout). l.blocks) c.self.view_is) c.self.invariant.named));
     }
 
 pub returns-clause-blocks : goal.returns-clause-blocks

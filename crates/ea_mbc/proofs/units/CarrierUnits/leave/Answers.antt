@@ -2,6 +2,9 @@ use Rattle.std.proofs.Common.{ℕ, ◌+◌, ◌-◌, sym, ap, ◌∙◌, subst, 
 use Rattle.ea_model.specs.Keyed.{without}
 use Rattle.ea_laws.proofs.BlockLists.{offset_of}
 use Rattle.ea_mbc.specs.Coding.{IsCoded}
+use Rattle.ea_mbc.specs.Layout.{Layout}
+use Rattle.ea_mbc.specs.Named.{AreNamed}
+use Rattle.ea_mbc.proofs.Naming.{named-without}
 use Rattle.ea_mbc.proofs.Reading.{blocks_of-coded, IsCoded-read}
 use Rattle.ea_mbc.specs.Indexed.{IsHeld, HasSlot, taken_out, put_in}
 use Rattle.ea_mbc.proofs.Seen.{seen, block-read, header-read, stop-read, left}
@@ -108,6 +111,9 @@ invariant_of-self c =
       indexed = slots-made _ _ _ c.args.self.now _ _ s.same (blocks_of-coded _ _ _ _ (coded c))
           (c.put.ensures ∙ ap (put_in c.args.start (c.args.stop - c.args.start))
           (c.take-2.ensures ∙ ap (taken_out at (c.args.stop - at)) c.take.ensures)) l.indexed;
+      named = subst (AreNamed c.self.inside.all_named) (sym (blocks_of-coded _ _ _ _ (coded c)))
+          (named-without c.self.inside.all_named c.args.offset c.args.self.now.blocks (subst (AreNamed c.self.inside.all_named)
+          (ap (λ (l : Layout). l.blocks) c.self.view_is) c.self.invariant.named));
     }
 
 pub returns-clause-blocks : goal.returns-clause-blocks

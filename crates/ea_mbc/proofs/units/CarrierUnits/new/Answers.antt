@@ -1,10 +1,12 @@
-use Rattle.std.proofs.Common.{◌≡◌, ℕ, ◌-◌, ◌%◌, ◌≤◌, [], length, refl, sym, ap, ◌∙◌, subst, arith}
+use Rattle.std.proofs.Common.{◌≡◌, ℕ, ◌-◌, ◌%◌, ◌≤◌, [], length, true, refl, sym, ap, ◌∙◌, subst, arith}
 use Rattle.std.proofs.lemmas.List.{length-replicate}
+use Rattle.std.proofs.lemmas.List.Elements.{All-nil}
 use Rattle.ea_model.specs.declared.units.TheConstants.{HEADER_UNITS}
 use Rattle.ea_model.specs.Content.{Tiled}
 use Rattle.ea_mbc.specs.Coding.{IsCoded}
 use Rattle.ea_mbc.specs.Indexed.{HasSlot, put_in}
 use Rattle.ea_mbc.specs.Layout.{Layout}
+use Rattle.ea_mbc.specs.Named.{AreNamed}
 use Rattle.ea_mbc.proofs.Indexing.{slot-new, indexed-new}
 use Rattle.ea_mbc.proofs.Reading.{blocks_of-coded, IsCoded-read}
 use Rattle.ea_mbc.proofs.Seen.{empty-coded}
@@ -35,6 +37,8 @@ invariant_of-result c =
           (c.put.ensures ∙ ap (put_in HEADER_UNITS (c.args.end - HEADER_UNITS))
           c.in_ok-index.ensures)
           (indexed-new c.args.inner c.args.end (tiled c.args.end c.requires.even c.requires.gap));
+      named = subst (AreNamed true) (sym (blocks_of-coded _ _ _ _ (coded c)))
+          (λ _. All-nil (λ b. 1 ≤ b.name));
     }
 
 pub returns : goal.returns

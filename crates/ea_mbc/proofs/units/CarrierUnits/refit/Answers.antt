@@ -1,6 +1,9 @@
 use Rattle.std.proofs.Common.{ℕ, ◌+◌, ◌-◌, sym, ap, ◌∙◌, subst, arith}
 use Rattle.ea_laws.proofs.Resized.{with_block}
 use Rattle.ea_mbc.specs.Coding.{IsCoded}
+use Rattle.ea_mbc.specs.Layout.{Layout}
+use Rattle.ea_mbc.specs.Named.{AreNamed}
+use Rattle.ea_mbc.proofs.Naming.{named-changed}
 use Rattle.ea_mbc.proofs.Reading.{blocks_of-coded, IsCoded-read}
 use Rattle.ea_mbc.proofs.Seen.{seen, block-read, header-read, stop-read, left-even, refitted}
 use Rattle.ea_mbc.specs.Indexed.{HasSlot, put_in}
@@ -97,6 +100,10 @@ invariant_of-self c =
       coded = (IsCoded-read _ _ _ _ (coded c), c.self.invariant.coded.1);
       indexed = slots-made _ _ _ c.args.self.now _ _ s.same (blocks_of-coded _ _ _ _ (coded c))
           (c.put.ensures ∙ ap (put_in at (c.args.stop - at)) c.take.ensures) l.indexed;
+      named = subst (AreNamed c.named_with-self-inside.result) (sym (blocks_of-coded _ _ _ _ (coded c)))
+          (named-changed c.named_with-self-inside.result c.self.inside.all_named c.args.block.offset
+          c.args.block.size c.args.block.name c.args.self.now.blocks c.named_with-self-inside.ensures (subst (AreNamed c.self.inside.all_named)
+          (ap (λ (l : Layout). l.blocks) c.self.view_is) c.self.invariant.named));
     }
 
 pub returns-clause-blocks : goal.returns-clause-blocks

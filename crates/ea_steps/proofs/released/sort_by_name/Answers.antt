@@ -1,0 +1,8 @@
+use Rattle.std.proofs.Common.{rules}
+use Rattle.std.proofs.lemmas.List.Sorted.{IsNonDecreasingBy-from_sort_by_key}
+use Rattle.ea_steps.proofs.FoundBlocks.{name_at}
+use Rattle.ea_steps.proofs.released.sort_by_name.Goals as goal
+
+pub returns-clause-rises : goal.returns-clause-rises
+returns-clause-rises c = IsNonDecreasingBy-from_sort_by_key name_at _
+    c.sort_unstable_by_key.ensures.sorted (λ a r q k. search rules)
