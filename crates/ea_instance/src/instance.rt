@@ -10,7 +10,6 @@ ghost use Rattle.ea_model.specs.declared.reallocation.Decision.TheVariants.{Move
 ghost use Rattle.ea_model.specs.declared.units.TheConstants.{MAX_PAGES, MAX_PERCENT};
 ghost use Rattle.ea_model.specs.declared.units.TheConstants.{MAX_SCHEDULERS, MAX_UNITS, MIN_BLOCK};
 ghost use Rattle.ea_model.specs.declared.units.TheConstants.{NUMBERS, RELEASED_COUNT};
-ghost use Rattle.ea_model.specs.declared.units.TheConstants.{RESIZED_COUNT};
 ghost use Rattle.ea_model.specs.Content.{Content, named};
 ghost use Rattle.ea_model.specs.declared.entries.NoCarrier.TheVariants.{Numbers, Space};
 ghost use Rattle.ea_model.specs.Region.{runs};
@@ -140,14 +139,15 @@ fn is_sparse(settings: Settings, used: u64, units: u64) -> bool
 }
 
 /// Whether the carrier of some that come to the figures is to be abandoned.
-fn is_due(settings: Settings, figures: Figures, multi: &Employed) -> bool
+fn is_due(settings: Settings, count: u32, figures: Figures, multi: &Employed) -> bool
     requires valid { settings.acul ≤ MAX_PERCENT }
     requires blocks { figures.blocks_size ≤ MAX_UNITS * (NUMBERS * MAX_SCHEDULERS) }
     requires units { figures.carriers_size ≤ MAX_UNITS * (NUMBERS * MAX_SCHEDULERS) }
     ensures { (cs : Items Content) → figures ≡ instances.figures cs
-        → result ≡ is_due settings 0 cs multi.now }
+        → result ≡ is_due settings count cs multi.now }
 {
-    multi.is_full_multi()
+    count == 0
+        && multi.is_full_multi()
         && is_sparse(
             settings,
             u64::from(multi.allocated()),
@@ -352,13 +352,6 @@ impl Instance {
         self.count = self.count.saturating_sub(RELEASED_COUNT);
     }
 
-    /// Its count after a block of a main or multiblock carrier shrank or grew there.
-    fn loosen(&mut self)
-        ensures { self.new ≡ lighter RESIZED_COUNT self.old }
-    {
-        self.count = self.count.saturating_sub(RESIZED_COUNT);
-    }
-
     /// The pages of the next multiblock carrier: as many as it would have by its turn, and no fewer
     /// than `least`; by the rule `powers` the least power of two that is as great, 64 at least.
     fn next_pages(&self, least: u32) -> u32
@@ -496,7 +489,7 @@ impl Instance {
             → block_in (employed self.new) at ≡ block_in (employed self.old) at }
     {
         if let Some(found) = self.find_multi(spot.carrier) {
-            self.lighten();
+            self.count = self.count.saturating_sub(RELEASED_COUNT);
             return self.carriers.release(found, spot.offset);
         }
         self.singles.release(spot.carrier, spot.offset);
@@ -513,7 +506,7 @@ impl Instance {
     {
         let figures = self.multi_figures();
         match self.carriers.carrier(number) {
-            Some(multi) => self.count == 0 && is_due(self.settings, figures, multi),
+            Some(multi) => is_due(self.settings, self.count, figures, multi),
             None => false,
         }
     }
@@ -561,12 +554,12 @@ impl Instance {
         match decide(self.settings, block.size, need, Where::Multi { behind }) {
             Decision::Stay => Some(self.carriers.rename(found, offset, name)),
             Decision::ShrinkHere => {
-                self.loosen();
+                self.count = self.count.saturating_sub(RESIZED_COUNT);
                 self.carriers.shrink(found, offset, need, name);
                 Some(need)
             }
             Decision::GrowHere => {
-                self.loosen();
+                self.count = self.count.saturating_sub(RESIZED_COUNT);
                 Some(self.carriers.grow(found, offset, need, name))
             }
             Decision::ShrinkCarrier { .. } => unreachable!(),
