@@ -147,9 +147,9 @@ pub highest-found : (pages : ℕ) (r : Segment) (rs : List Segment) (base : ℕ)
     ⊎ ((highest_end pages rs ≡ None) × (pages ≤ r.pages) × (base + pages ≡ r.base + r.pages))
 highest-found pages r rs base e = elim (or-found (highest_end pages rs) (end_of pages r) base
     (sym (highest-cons pages r rs) ∙ e)) [
-  | inl later ↦ inl later
-  | inr here ↦ let is = end-found pages r base here.1 in inr (here.0, is.0, is.1)
-]
+      | inl later ↦ inl later
+      | inr here ↦ let is = end-found pages r base here.1 in inr (here.0, is.0, is.1)
+    ]
 
 end_none : (pages : ℕ) (r : Segment) → IsNone (end_of pages r) → r.pages < pages
 end_none pages r h = elim (cases_lt r.pages pages)
@@ -187,7 +187,7 @@ stretch_found : (pages a b : ℕ) (rest : List Segment) (base : ℕ)
     → (highest_end pages rest ≡ Some base) ⊎ ((a ≤ base) × (base + pages ≡ b))
 stretch_found pages a b rest base = elim (cases_lt a b) [
   | inl lt ↦ subst (λ ss. highest_end pages (ss ++ rest) ≡ Some base
-        → (highest_end pages rest ≡ Some base) ⊎ ((a ≤ base) × (base + pages ≡ b)))
+      → (highest_end pages rest ≡ Some base) ⊎ ((a ≤ base) × (base + pages ≡ b)))
       (sym (cond-true (nat_lt a b) (record { base = a; pages = b - a } ∷ []) []
       (grind (arith, lt))))
       (λ e. elim (highest-found pages (record { base = a; pages = b - a }) rest base e) [
@@ -195,7 +195,7 @@ stretch_found pages a b rest base = elim (cases_lt a b) [
         | inr here ↦ inr (omega (arith, lt, here.1, here.2), omega (arith, lt, here.2))
       ])
   | inr ge ↦ subst (λ ss. highest_end pages (ss ++ rest) ≡ Some base
-        → (highest_end pages rest ≡ Some base) ⊎ ((a ≤ base) × (base + pages ≡ b)))
+      → (highest_end pages rest ≡ Some base) ⊎ ((a ≤ base) × (base + pages ≡ b)))
       (sym (cond-false (nat_lt a b) (record { base = a; pages = b - a } ∷ []) []
       (grind (arith, ge))))
       (λ e. inl e)
@@ -205,13 +205,13 @@ highest_fits : (at end pages : ℕ) (ss : List Segment) (base : ℕ) → Laid at
     → highest_end pages (runs at end ss) ≡ Some base → Fits at end base pages ss
 highest_fits at end pages [] base t e = elim (stretch_found pages at end [] base
     (subst (λ rs. highest_end pages rs ≡ Some base) (sym (append-nil (stretch at end))) e)) [
-  | inl later ↦ let never : None ≡ Some base = sym (highest-nil pages) ∙ later in absurd cc
-  | inr here ↦ record {
-    behind = here.0;
-    before = omega (arith, here.1);
-    apart = All-nil (SegmentApart base pages);
-  }
-]
+      | inl later ↦ let never : None ≡ Some base = sym (highest-nil pages) ∙ later in absurd cc
+      | inr here ↦ record {
+        behind = here.0;
+        before = omega (arith, here.1);
+        apart = All-nil (SegmentApart base pages);
+      }
+    ]
 highest_fits at end pages (s ∷ ss) base t e =
     elim (stretch_found pages at s.base (runs (s.base + s.pages) end ss) base e) [
       | inl later ↦

@@ -92,11 +92,11 @@ pub record IsPlanned (i : Instance) (need : ℕ) (p : CarrierPlan) : Type 0 wher
 pub wanted-enough : (i : Instance) (need : ℕ) → least_pages need ≤ wanted_pages i need
 wanted-enough i need = cond_both (is_alone i need) (least_pages need) (next_pages i need)
     (λ n. least_pages need ≤ n) (λ _. omega arith) (λ _. omega (arith, enough)) where
-  wanted : ℕ
-  wanted = max (least_pages need) (pages_for (growth i.settings (multis i.contents)))
+      wanted : ℕ
+      wanted = max (least_pages need) (pages_for (growth i.settings (multis i.contents)))
 
-  enough : wanted ≤ next_pages i need
-  enough = rounded-from i.settings wanted
+      enough : wanted ≤ next_pages i need
+      enough = rounded-from i.settings wanted
 
 at_least : (i : Instance) (need number : ℕ) (p : CarrierPlan) (o : Option ℕ)
     → unused_from NUMBERS (first_number i.number) i.own ≡ Some number

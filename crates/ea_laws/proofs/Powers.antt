@@ -103,14 +103,14 @@ pub power-raised : (n p : ℕ) → IsNextPowerOfTwo n p
 power-raised n p next =
     power-same (max MIN_POWER_PAGES n) (max p MIN_POWER_PAGES) (power_from n MIN_POWER_PAGES n)
     (omega arith) raised (power-next n) where
-  raised : IsNextPowerOfTwo (max MIN_POWER_PAGES n) (max p MIN_POWER_PAGES)
-  raised = elim (cases_lt MIN_POWER_PAGES p) [
-    | inl more ↦
-        let is : max p MIN_POWER_PAGES ≡ p = omega (arith, more) in
-        subst (IsNextPowerOfTwo (max MIN_POWER_PAGES n)) (sym is)
-        (next.0, omega (arith, more, next.1), omega (arith, next.2))
-    | inr least ↦
-        let is : max p MIN_POWER_PAGES ≡ 64 = omega (arith, least) in
-        subst (IsNextPowerOfTwo (max MIN_POWER_PAGES n)) (sym is)
-        ((6, refl), omega (arith, least, next.1), omega arith)
-  ]
+      raised : IsNextPowerOfTwo (max MIN_POWER_PAGES n) (max p MIN_POWER_PAGES)
+      raised = elim (cases_lt MIN_POWER_PAGES p) [
+        | inl more ↦
+            let is : max p MIN_POWER_PAGES ≡ p = omega (arith, more) in
+            subst (IsNextPowerOfTwo (max MIN_POWER_PAGES n)) (sym is)
+            (next.0, omega (arith, more, next.1), omega (arith, next.2))
+        | inr least ↦
+            let is : max p MIN_POWER_PAGES ≡ 64 = omega (arith, least) in
+            subst (IsNextPowerOfTwo (max MIN_POWER_PAGES n)) (sym is)
+            ((6, refl), omega (arith, least, next.1), omega arith)
+      ]

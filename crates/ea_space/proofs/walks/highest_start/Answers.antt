@@ -40,14 +40,14 @@ loop-segment-preserved c =
     let t = Laid-last c.args.first c.loop-segment.upto c.loop-segment.segment-iterator.iter.rest.now
     c.next.new.self.iter.rest.now c.in-Some.segment.now c.in-Some.ensures.steps
     c.loop-segment.invariant.laid in record {
-  laid = t.0;
-  before = omega (arith, t.1, c.loop-segment.invariant.before);
-  rest = sym (highest-past c.args.pages c.args.first c.loop-segment.upto
-      c.next.new.self.iter.rest.now c.in-Some.segment.now (sym c.holds.ensures ∙ c.if-holds.false))
-      ∙ ap (λ ss. highest_end c.args.pages (runs c.args.first c.loop-segment.upto ss))
-      (sym c.in-Some.ensures.steps)
-      ∙ c.loop-segment.invariant.rest;
-}
+      laid = t.0;
+      before = omega (arith, t.1, c.loop-segment.invariant.before);
+      rest = sym (highest-past c.args.pages c.args.first c.loop-segment.upto
+          c.next.new.self.iter.rest.now c.in-Some.segment.now (sym c.holds.ensures ∙ c.if-holds.false))
+          ∙ ap (λ ss. highest_end c.args.pages (runs c.args.first c.loop-segment.upto ss))
+          (sym c.in-Some.ensures.steps)
+          ∙ c.loop-segment.invariant.rest;
+    }
 
 pub holds-requires-2 : goal.holds-requires-2
 holds-requires-2 c =

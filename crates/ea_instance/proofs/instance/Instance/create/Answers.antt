@@ -66,12 +66,11 @@ add-requires-clause-number c =
     c.requires.plan
 
 pub add-requires-clause-found : goal.add-requires-clause-found
-add-requires-clause-found c =
-    (
-      c.self.inside.settings.rules.falling,
-      free-run _ _ _ _ _ _ _ c.self.invariant c.args.need c.args.plan _ c.self.view_is
-          c.requires.plan,
-    )
+add-requires-clause-found c = (
+  c.self.inside.settings.rules.falling,
+  free-run _ _ _ _ _ _ _ c.self.invariant c.args.need c.args.plan _ c.self.view_is
+      c.requires.plan,
+)
 
 pub invariant_of-self : goal.invariant_of-self
 invariant_of-self c =

@@ -26,7 +26,10 @@ returns-then-self c =
     let powers : i.settings.rules.powers ≡ true =
     sym (ap (λ (j : Instance). j.settings.rules.powers) c.self.view_is) ∙ c.if-self.true in
     c.max.ensures
-    ∙ power-raised n p (c.next_power_of_two.ensures.power, c.next_power_of_two.ensures.lower_bound,
-    c.next_power_of_two.ensures.upper_bound)
+    ∙ power-raised n p (
+      c.next_power_of_two.ensures.power,
+      c.next_power_of_two.ensures.lower_bound,
+      c.next_power_of_two.ensures.upper_bound,
+    )
     ∙ sym (cond-true i.settings.rules.powers (power_from n MIN_POWER_PAGES n) n powers)
     ∙ ap (rounded i.settings) is
