@@ -3,6 +3,7 @@ import re
 from dataclasses import dataclass
 
 from node_file import read_lines
+from program import OF_RECORDED, command_of, rules_of
 from recording import read_recording
 from refused import demand
 from texts import carrier_in
@@ -208,4 +209,14 @@ def table_of_mark(options):
     letter, mark = found.letter(options.type), found.mark(options.until)
     for name, figures in rows_of_mark(mark, letter, kinds_of_run(options.beside, letter)):
         yield (f"{name:40}" + "".join(f"{it:>14}" for it in figures)).rstrip()
+    if options.input:
+        yield told_of_rules(options.input)
     yield from told_of_failed(options.beside)
+
+
+def told_of_rules(path):
+    """By which rules the run of an input was."""
+    lines = [it.encode() for it in read_lines(path)]
+    demand(command_of(lines) == [OF_RECORDED], f"{path}: it is no input of recorded operations")
+    rules = rules_of(lines)
+    return f"The run was by {f'the rules {rules}' if rules else 'no rules'} of a node."

@@ -6,6 +6,7 @@ COLUMNS = {
     "trace": "the file of the trace",
     "type": "the letter of the allocator, of which an input of several has a line for each",
     "ran": "what ran by these flags: the strategy, and its `acul`",
+    "rules": "the rules of a node by which recorded operations ran; `none` where their input names none",
     "mark": "with --marks: the mark up to which the input was run; `end` is the whole of it",
     "status": "with which the program ended: 0 if its text is whole",
     "mb_end": "the megabytes of all carriers at the end, of 1048576 bytes",
@@ -48,4 +49,4 @@ DECIMALS = {
 HIDDEN = ("flags", "units_end", "units_most", "utilisation_each", "mb_single", "failed_space", "failed_numbers")
 IF_ANY = ("status", "said", "stopped", "undone")
 IF_SEVERAL = ("trace", "type", "mark")
-OF_WORDS = ("list", "flags", "trace", "type", "ran", "mark", "utilisation_each", "said")
+OF_WORDS = ("list", "flags", "trace", "type", "ran", "rules", "mark", "utilisation_each", "said")

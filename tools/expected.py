@@ -54,6 +54,8 @@ OPERATIONS = {
     "info": ("info", ()),
     "idle": ("idle", ()),
 }
+# Of a node, by which recorded operations may run.
+RULES = "powers falling counter"
 # Of what blocks contain.
 ACCESSES = {"write": ("write NAME INDEX VALUE", ("NAME", "INDEX", "VALUE")), "read": ("read NAME INDEX", ("NAME", "INDEX"))}
 # Of one shared region.
@@ -245,6 +247,10 @@ def of_recorded_syntax(lines, words):
         return f"`type X` first, of {LETTERS}"
     if said[-1][0] == "end":
         return "nothing after `end`"
+    if words[0].lower() == "rules" and len(said) > 1:
+        return "`rules` once, directly after the `type` line"
+    if words[0].lower() == "rules":
+        return f"`rules`, and of {RULES} one or more, each once"
     if len(words) > 1 and words[0].isdigit() and words[1] in OPERATIONS:
         return f"a scheduler and {form_words(OPERATIONS[words[1]])}"
     return "a scheduler and its operation, as `2 alloc 7 100`, or `end`"

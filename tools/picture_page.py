@@ -3,7 +3,7 @@ import html
 import json
 import os
 
-from picture_svg import COLOURS
+from picture_svg import COLOURS, rules_words
 from texts import NUMBERS_OF_AN_INSTANCE
 
 STANDINGS = ("employed", "used", "pooled", "busy", "returning")
@@ -39,6 +39,7 @@ def page_data(run):
         "name": os.path.basename(run.name),
         "flags": " ".join(run.program.words),
         "held": run.settings.told(),
+        "rules": rules_words(run.trace),
         "letter": run.trace.letter,
         "schedulers": len(run.trace.sections),
         "megabytes": run.settings.megabytes,

@@ -135,6 +135,11 @@ def flags_words(words, settings=None):
     return f"{said} · held: {settings.told()}" if settings else said
 
 
+def rules_words(trace):
+    """The rules of a node by which recorded operations ran, if there are any."""
+    return [f"rules {trace.rules}"] if trace.rules else []
+
+
 def megabytes(units):
     return f"{units / UNITS_OF_A_MB:,.1f} MB"
 
@@ -210,7 +215,8 @@ class Drawing:
         run, figures = self.run, self.run.figures(self.moment)
         names = ("units", "live", "queued", "free")
         said = " · ".join(f"{it} {figures[it]:,} ({megabytes(figures[it])})" for it in names)
-        said = f"{flags_words(run.program.words, run.settings)} · carriers {figures['carriers']:,} · {said}"
+        flags = " · ".join([flags_words(run.program.words, run.settings), *rules_words(run.trace)])
+        said = f"{flags} · carriers {figures['carriers']:,} · {said}"
         parts, self.y = heading_of(f"{os.path.basename(run.name)}: {self.title()}", said, self.y)
         self.parts += parts
 

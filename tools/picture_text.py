@@ -4,7 +4,7 @@ from dataclasses import dataclass, replace
 
 from expected import explained
 from files import read_file, reason_of
-from program import COMMANDS, NOT_BUILT, OF_RECORDED, OF_REGION, OF_SEVERAL, command_of, run, told_of
+from program import COMMANDS, NOT_BUILT, OF_RECORDED, OF_REGION, OF_RULES, OF_SEVERAL, command_of, rules_of, run, told_of
 from refused import Refused
 from texts import need_of, read_carrier, read_total
 
@@ -26,8 +26,9 @@ class Trace:
     closing: list
     places: list
     is_of_several: bool = False
-    # Of recorded operations the scheduler of each, in their order.
+    # Of recorded operations the scheduler of each, in their order, and the rules of a node by which they run.
     order: list = None
+    rules: str = ""
 
     @property
     def has_threads(self):
@@ -45,6 +46,8 @@ class Trace:
 
     def recorded_text(self, sections):
         parts, lines = [iter(it) for it in sections], [f"type {self.letter}"]
+        if self.rules:
+            lines.append(f"{OF_RULES.decode()} {self.rules}")
         for me in self.order[: sum(map(len, sections))]:
             lines.append(f"{me} {next(parts[me - 1])}")
         return "\n".join([*lines, "end", ""])
@@ -185,7 +188,8 @@ def read_recorded(data):
     for me, *words in lines:
         sections[int(me) - 1].append(" ".join(words))
     order = [int(it[0]) for it in lines]
-    return Trace(first[1], sections, {}, ["schedule", "end"], [[*range(len(it))] for it in sections], order=order)
+    places, rules = [[*range(len(it))] for it in sections], rules_of(data.split(b"\n"))
+    return Trace(first[1], sections, {}, ["schedule", "end"], places, order=order, rules=rules)
 
 
 def part_of(text, trace):

@@ -18,6 +18,9 @@ SMALLEST_TRACE = b"type H\nscheduler 1\nschedule\nend\n"
 # of a trace; and for one with writes and reads.
 OF_SEVERAL, OF_REGION, OF_RECORDED, OF_HISTOGRAMS = "types", "super", "recorded", "histogram"
 OF_STEPS, OF_CONTENTS = "steps", "contents"
+# What begins the line of a recorded input, after its `type` line, that names the rules of a node by which it runs.
+OF_RULES = b"rules"
+RULES, NO_RULES = ("powers", "falling", "counter"), "none"
 COMMANDS = (OF_SEVERAL, OF_REGION, OF_RECORDED, OF_HISTOGRAMS, OF_STEPS, OF_CONTENTS)
 
 
@@ -29,15 +32,26 @@ def is_said(line):
     return bool(line.strip()) and not line.lstrip().startswith(b"#")
 
 
+def begin_of(lines):
+    """The words of the first two lines that the program does not skip."""
+    said = filter(is_said, lines)
+    return [next(said, b"").split() for _ in range(2)]
+
+
 def command_of(lines):
     """The words that come before the flags where the program takes an input of these lines: after the `type` line of a
-    recorded one each line begins with a scheduler."""
-    said = filter(is_said, lines)
-    first, second = (next(said, b"").split(None, 1)[:1] for _ in range(2))
+    recorded one, and a line of rules, each line begins with a scheduler."""
+    first, second = (it[:1] for it in begin_of(lines))
     if first == [OF_SEVERAL.encode()]:
         return [OF_SEVERAL]
-    is_recorded = first == [b"type"] and second and (second[0].isdigit() or second == [b"end"])
+    is_recorded = first == [b"type"] and second and (second[0].isdigit() or second[0] in (b"end", OF_RULES))
     return [OF_RECORDED] if is_recorded else []
+
+
+def rules_of(lines):
+    """The rules of a node by which an input of these lines runs, as it names them; the empty text where it names none."""
+    second = begin_of(lines)[1]
+    return b" ".join(second[1:]).decode("latin-1") if second[:1] == [OF_RULES] else ""
 
 
 def with_schedulers(flags, data):

@@ -3,6 +3,7 @@ import re
 from collections import Counter
 from dataclasses import dataclass, field
 
+from program import OF_RULES, RULES
 from refused import Refused, demand
 
 FIRST_LINE = "node-record 1"
@@ -67,6 +68,11 @@ class Recording:
     marks: list = field(default_factory=list)
     threads: dict = field(default_factory=dict)
     lines: int = 0
+
+    @property
+    def rules(self):
+        """Those of a node that the program has, too: without a super carrier the mappings of its carriers fall."""
+        return [it for it in RULES if it != "falling" or not self.megabytes]
 
     def mark(self, name):
         found = next((it for it in self.marks if it.name == name), None)
@@ -166,12 +172,12 @@ class Maker:
     """Follows the events of one allocator, and makes operations of them: (scheduler, line), and (0, mark)."""
 
     def __init__(self, recording, letter, others, more, is_trace, told):
-        """Comment lines of so many bytes come before the operations."""
+        """Lines of so many bytes come before the operations."""
         self.threads, self.others = recording.threads, others
         self.letter, self.more, self.is_trace = letter, more, is_trace
         self.blocks, self.moving = {}, {}
         self.lines, self.names, self.operations = [], 0, 0
-        self.size = told + len(f"type {letter}\n") + len(END)
+        self.size = told + len(END)
         if is_trace:
             self.size += sum(len(it) for it in heads(recording.schedulers))
         self.counts, self.said = Counter(), Counter()
@@ -329,6 +335,11 @@ def own_flags(recording, letter, megabytes):
 def untranslated(recording, letter):
     """What of the node's settings has no flag here."""
     return [it for it in recording.untranslated if it.startswith(f"+M{letter}")]
+
+
+def head_of(letter, rules):
+    """The lines before the operations, or before the sections."""
+    return [f"type {letter}\n", *([f"{OF_RULES.decode()} {' '.join(rules)}\n"] if rules else [])]
 
 
 def as_recorded(maker):

@@ -3,7 +3,7 @@ from collections import Counter
 from dataclasses import dataclass
 
 from flags import Settings
-from program import run
+from program import OF_RULES, command_of, run
 from texts import carrier_of, figure, is_placed, owner_of, read_text
 
 MOST_OPERATIONS = 2**20
@@ -174,17 +174,28 @@ class Replay:
         return mine == there and self.block_units == text.total["live"] + text.total["queued"]
 
 
+def of_trace(parts):
+    """The lines of the sections of a trace."""
+    for me, part in enumerate(parts, 1):
+        yield from [b"scheduler %d" % me, *part]
+
+
+def of_rules(rules, parts):
+    """The lines of recorded operations that run by rules. One scheduler alone has any."""
+    yield OF_RULES + b" " + rules.encode("latin-1")
+    for me, part in enumerate(parts, 1):
+        yield from (b"%d %s" % (me, it) for it in part)
+
+
 def with_infos(trace, after):
     """The trace with an `info` after these operations of each scheduler, or None if that is longer than one may be."""
-    lines = [b"type " + trace.letter.encode()]
-    for me, (section, places) in enumerate(zip(trace.sections, after), 1):
-        places = set(places)
-        lines.append(b"scheduler %d" % me)
-        for at, line in enumerate(section):
-            lines += [line, b"info"] if at in places else [line]
+    parts = []
+    for section, places in zip(trace.sections, map(set, after)):
+        parts.append([it for at, line in enumerate(section) for it in ([line, b"info"] if at in places else [line])])
+    lines = [b"type " + trace.letter.encode(), *(of_rules(trace.rules, parts) if trace.rules else of_trace(parts))]
     # Its queue is empty, so that each `info` takes a step.
     lines += [b"stop %d %d" % (me, steps + len(after[me - 1])) for me, steps in trace.stops.items()]
-    text = b"\n".join([*lines, b"schedule", b"end", b""])
+    text = b"\n".join([*lines, *([] if trace.rules else [b"schedule"]), b"end", b""])
     operations = sum(map(len, trace.sections)) + sum(map(len, after))
     return text if operations <= MOST_OPERATIONS and len(text) <= LARGEST_INPUT else None
 
@@ -202,7 +213,7 @@ def replay(program, words, trace, text, seconds):
     missing = found.follow(text.logs)
     if any(missing):
         copy = with_infos(trace, missing)
-        ran = copy and run([program, *words], copy, seconds)
+        ran = copy and run([program, *command_of(copy.split(b"\n", 2)), *words], copy, seconds)
         if not ran or ran.returncode:
             return None
         told = read_text(ran.stdout)

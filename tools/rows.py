@@ -9,7 +9,7 @@ from dataclasses import replace
 from columns import DECIMALS
 from files import reason_of
 from flags import Settings
-from program import OF_RECORDED, Ended, command_of, is_said, run, told_of, with_schedulers
+from program import NO_RULES, OF_RECORDED, Ended, command_of, is_said, run, told_of, with_schedulers
 from replay import UNITS_EVER, replay
 from texts import (
     BYTES_OF_A_UNIT, NUMBERS_OF_AN_INSTANCE, carrier_of, is_placed, owner_of, read_texts, read_traces,
@@ -221,7 +221,9 @@ def columns_of(program, words, trace, text, seconds):
     found = replay(program, words, trace, text, seconds) if trace.has_one_order() else None
     settings = Settings.of(words, trace.letter)
     of_time = replayed(found) if found else bounded(trace, text, settings.migrates)
-    return {"type": trace.letter, "ran": settings.ran(), **counted(trace, text), **of_time, "mb_most": megabytes(of_time.get("units_most"))}
+    rules = NO_RULES if trace.rules == "" else trace.rules
+    ran = {"type": trace.letter, "ran": settings.ran(), "rules": rules}
+    return {**ran, **counted(trace, text), **of_time, "mb_most": megabytes(of_time.get("units_most"))}
 
 
 def rows_of_input(program, flags, row, data, seconds):

@@ -2,7 +2,7 @@
 import re
 from dataclasses import dataclass, field, replace
 
-from program import OF_RECORDED, command_of, is_said
+from program import OF_RECORDED, command_of, is_said, rules_of
 
 BYTES_OF_A_UNIT = 8
 UNITS_OF_A_PAGE = 512
@@ -96,6 +96,8 @@ class Trace:
     stops: dict
     has_turns: bool
     is_threaded: bool
+    # Of recorded operations the rules of a node by which they run: the empty text where they name none.
+    rules: str = None
 
     def has_one_order(self):
         """Whether each scheduler does all of its operations before the next one begins, or one alone has any."""
@@ -152,7 +154,7 @@ def read_recorded(lines):
             sections.setdefault(int(me), []).append(operation.strip())
     count = max(sections, default=1)
     parts = [sections.get(it, []) for it in range(1, count + 1)]
-    return Trace(lines[0].split()[1].decode(), parts, {}, True, False)
+    return Trace(lines[0].split()[1].decode(), parts, {}, True, False, rules_of(lines))
 
 
 def read_texts(text):

@@ -422,6 +422,29 @@ class Compare(unittest.TestCase):
         status, _, said = self.compare(self.file("b.input", "type H\n2 idle\nend\n"), "--all", "+MHas")
         self.assertEqual((status, said.split("\n")[0]), (1, "compare: the flags of all lists: +MHas: value missing"))
 
+    RULED = "1 alloc 1 200000\n1 alloc 2 200000\n1 free 1\nend\n"
+
+    def test_recorded_operations_by_rules_of_a_node(self):
+        """The second carrier has 256 pages, and not 186; what there was at most is told by a copy that runs so, too."""
+        for line, rules, pages in (("", "none", 186), ("rules powers\n", "powers", 256),
+                                   ("rules  counter powers falling\n", "counter powers falling", 256)):
+            [row] = self.recorded(f"# a\ntype H\n{line}{self.RULED}", *KEPT_APART)
+            self.assertRow(row, rules=rules, carriers_most=2, units_most=(64 + pages) * 512, units_end=pages * 512)
+        rows = self.recorded("type H\nrules counter\n1 alloc 1 100\n1 alloc 2 100\n# mark two\n1 free 1\nend\n", "--marks")
+        self.assertEqual([(it["mark"], it["rules"], it["abandoned"]) for it in rows],
+                         [("two", "counter", 0), ("end", "counter", 0)])
+        self.assertIsNone(self.row(one("alloc 1 100"), *KEPT_APART)["rules"])
+
+    def test_the_rules_stand_below_the_table_or_in_a_column(self):
+        said = "All ran by the rules powers of a node.\n"
+        ruled, plain = self.file("a.input", f"type H\nrules powers\n{self.RULED}"), self.file("b.input", f"type H\n{self.RULED}")
+        other = self.file("c.trace", one("alloc 1 100"))
+        for names, is_below, is_column in (([ruled], True, False), ([plain], False, False), ([ruled, plain], False, True),
+                                           ([ruled, other], False, True), ([plain, other], False, False)):
+            status, text, _ = self.compare(*names, *KEPT_APART)
+            head = text.splitlines()[0].split()
+            self.assertEqual((status, said in text, "rules" in head), (0, is_below, is_column), names)
+
     def recorded(self, text, *words):
         probe = subprocess.run([program(), "recorded"], input="type H\nend\n", capture_output=True, text=True, check=False)
         if probe.returncode:

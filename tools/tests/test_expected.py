@@ -130,6 +130,15 @@ class Lines(unittest.TestCase):
                    words="recorded")
         self.check("line 2: syntax", "a scheduler and `free NAME`, NAME 1 to 1048576", "type H", "1 free", words="recorded")
 
+    def test_rules_of_recorded_operations(self):
+        for line in "rules", "rules powers powers", "rules tree", "Rules powers":
+            self.check("line 2: syntax", "`rules`, and of powers falling counter one or more, each once", "type H", line,
+                       words="recorded")
+        for line in "1 idle", "rules falling":
+            self.check("line 3: syntax", "`rules` once, directly after the `type` line", "type H", line, "rules powers",
+                       words="recorded")
+        self.check("line 1: syntax", "`type X` first, of B D E H L R S T", "rules powers", "type H", words="recorded")
+
     def test_one_shared_region(self):
         head = "super", "scheduler 1"
         for said, wanted, *lines in (

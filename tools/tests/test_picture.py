@@ -760,6 +760,18 @@ class Recorded(Case):
         for words in [], ["--", "recorded", "+MHacul", "0"]:
             self.assertEqual(self.data("--trace", trace, *words)["schedulers"], 2)
 
+    def test_by_rules_of_a_node(self):
+        """Runs of the first operations, too: the second carrier, which is gone at the end, has 256 pages before page 64."""
+        lines = ["1 alloc 1 200000", "1 alloc 2 200000", "1 free 2"]
+        trace = self.write("a.input", "\n".join(["type H", "rules powers", *lines, "end", ""]))
+        data = self.data("--trace", trace, "--", "+MHacul", "0")
+        self.assertEqual((data["rules"], spans_of(data, 2)), (["rules powers"], [(2, 64, 256)]))
+        self.assertIn(" · rules powers · carriers 2 · ", self.svg(trace, 2, "+MHacul", "0"))
+        trace = self.write("b.input", "\n".join(["type H", *lines, "end", ""]))
+        data = self.data("--trace", trace, "--", "+MHacul", "0")
+        self.assertEqual((data["rules"], spans_of(data, 2)), ([], [(2, 64, 186)]))
+        self.assertNotIn("rules", self.svg(trace, 2, "+MHacul", "0"))
+
     def test_of_more_schedulers_than_have_operations(self):
         trace = self.write("a.input", "type H\n1 alloc 1 100\nend\n")
         data = self.data("--trace", trace, "--", "+S", "4")

@@ -77,7 +77,7 @@ class Case(unittest.TestCase):
     def made(self, *events, more=()):
         """The operations that are made of these events of B."""
         path = self.write("a.record", HEAD + "".join(f"{it}\n" for it in events))
-        return operations(self.load("--recorded", path, "--type", "B", *more))
+        return operations(self.load("--recorded", path, "--type", "B", "--rules", "none", *more))
 
 
 class Events(Case):
@@ -131,10 +131,40 @@ class Events(Case):
         path = self.write("a.record", HEAD + "".join(f"alloc B 1 a{it} 8\n" for it in range(5)))
         text = self.load("--recorded", path, "--type", "B")
         lines = [it for it in text.splitlines() if it[0] != "#" or it.startswith("# mark ")]
-        self.assertEqual(lines[1:7], ["# mark begin", "1 alloc 1 8", "1 alloc 2 8", "1 alloc 3 8", "# mark middle",
+        self.assertEqual(lines[2:8], ["# mark begin", "1 alloc 1 8", "1 alloc 2 8", "1 alloc 3 8", "# mark middle",
                                       "1 alloc 4 8"])
         lines = operations(self.load("--recorded", path, "--type", "B", "--until", "middle"))
-        self.assertEqual(len(lines), 5)
+        self.assertEqual(len(lines), 6)
+
+    def test_the_rules_are_those_of_the_node(self):
+        """All without a super carrier, and all but falling with one; others and none if that is asked for."""
+        all_three, with_one = "powers falling counter", "powers counter"
+        node = "the node, which has {} super carrier, has {}."
+        for megabytes, words, rules, has in (
+            (0, (), f"the rules {all_three}", node.format("no", all_three)),
+            (64, (), f"the rules {with_one}", node.format("a", with_one)),
+            (64, ("--rules", all_three.replace(" ", ",")), f"the rules {all_three}", node.format("a", with_one)),
+            (0, ("--rules", "counter,powers"), "the rules counter powers", node.format("no", all_three)),
+            (0, ("--rules", "none"), "no rules of a node", node.format("no", all_three)),
+        ):
+            path = self.write("a.record", HEAD.replace("super 0", f"super {megabytes}") + "alloc B 1 a0 8\n")
+            text = self.load("--recorded", path, "--type", "B", *words)
+            line = [rules.replace("the ", "")] if rules.startswith("the") else []
+            self.assertEqual(operations(text), ["type B", *line, "1 alloc 1 8", "end"])
+            self.assertIn(f"\n# It runs by {rules}; {has}\n", text)
+
+    def test_a_trace_has_no_rules(self):
+        path = self.write("a.record", HEAD)
+        text = self.load("--recorded", path, "--type", "B", "--as", "trace")
+        self.assertNotIn("rules", text)
+        said = self.load("--recorded", path, "--type", "B", "--as", "trace", "--rules", "powers", status=2)
+        self.assertEqual(said, "load: --rules are of recorded operations: a trace has none (see --help)\n")
+
+    def test_rules_that_there_are_not(self):
+        for word in "tree", "powers,powers", "none,powers", "", "powers falling":
+            said = self.load("--recorded", "a.record", "--rules", word, status=2)
+            wanted = "is neither none nor some of powers,falling,counter, each once (see --help)\n"
+            self.assertEqual(said, f"load: argument --rules: {word!r} {wanted}")
 
     def test_what_does_not_fit_is_cut_at_a_whole_operation(self):
         """A free by another scheduler is three lines, of which 1048576 hold 262144 with their allocations."""
@@ -142,7 +172,7 @@ class Events(Case):
         path = self.write("a.record", HEAD.replace("mark 100 end", "mark 600000 end") + "".join(pairs))
         text = self.load("--recorded", path, "--type", "B", "--until", "end")
         lines = operations(text)
-        self.assertLessEqual(len(lines) - 2, 1048576)
+        self.assertLessEqual(len(lines) - 3, 1048576)
         self.assertLessEqual(len(text), 2**24)
         self.assertEqual(lines[-2].split()[:2], ["2", "free"])
         self.assertIn("# CUT: ", text)
@@ -209,6 +239,20 @@ class Events(Case):
         self.assertEqual(rows["pooled"], ["262144", "262144"])
         self.assertEqual(rows["bytes in blocks"], ["526300", str((14 + 100 + 65538) * 8)])
         self.assertIn("FAILED: 1 allocations", table)
+        self.assertNotIn("rules", table)
+
+    def test_beside_a_run_of_an_input_its_rules_are_told(self):
+        words = ["--recorded", self.write("a.record", HEAD), "--type", "B", "--beside",
+                 self.write("a.out", "scheduler 1\nscheduler 2\ntotal carriers 0\n"), "--input"]
+        for line, said in (("rules powers\n", "the rules powers"), ("# rules powers\n1 idle\n", "no rules"),
+                           (" # a\n\n rules  counter falling \n", "the rules counter falling")):
+            path = self.write("a.input", f"type B\n{line}end\n")
+            self.assertEqual(self.load(*words, path).splitlines()[-1], f"The run was by {said} of a node.")
+        path = self.write("a.trace", "type B\nscheduler 1\nschedule\nend\n")
+        said = f"load: {path}: it is no input of recorded operations\n"
+        self.assertEqual(self.load(*words, path, status=1), said)
+        said = "load: --input is for --recorded with --beside (see --help)\n"
+        self.assertEqual(self.load("--recorded", "a.record", "--input", path, status=2), said)
 
 
 def source_words(text):
@@ -242,6 +286,7 @@ class Node(Case):
         for wanted in range(5001, 5301):
             self.assertTrue(any(wanted <= it <= wanted + 64 for it in sizes), wanted)
         lines = operations(self.load("--recorded", path, "--type", "B"))
+        self.assertEqual(lines[1], "rules powers falling counter")
         self.assertGreaterEqual(sum(" alloc " in it for it in lines), 300)
         self.assertGreaterEqual(sum(" free " in it for it in lines), 290)
         self.run_of(path)

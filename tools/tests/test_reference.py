@@ -103,6 +103,27 @@ class Examples(unittest.TestCase):
             shown = found.search(section("commands.md", SECTIONS[command]))
             self.assert_refused([command, *(shown[2] or "").split()], re.findall(CODE, shown[1]), shown[3])
 
+    def test_rules(self):
+        """The carriers of each row, and the count of the example below."""
+        shown = section("commands.md", "Rules of a node")
+        asked, flags = re.search(r"\| ((?:`[^`|]+`(?:, )?)+) under `([^`|]+)` \|\n", shown).groups()
+        rows = re.findall(r"^\| (none|`\w+`) \|.*\| ([^|]*) \|$", shown, re.M)
+        self.assertEqual([it[0] for it in rows], ["none", "`powers`", "`falling`"])
+        for rule, places in rows:
+            text = self.run_recorded(re.findall(CODE, asked), flags.split(), rule.strip("`"))
+            self.assertEqual(re.findall(r"base \d+ pages \d+", text), re.findall(CODE, places))
+        asked, rule, kept, gone = re.search(
+            r"After (.*) with `rules (\w+)` it is 990, and carrier 1 is `([^`]+)`, without the line `([^`]+)`", shown).groups()
+        for it, standing in ((rule, kept), ("none", gone)):
+            text = self.run_recorded(re.findall(CODE, asked), [], it)
+            self.assertIn(f"carrier 1 multi owner 1 {standing} base", text)
+
+    def run_recorded(self, lines, words, rule):
+        lines = ["type H", *([] if rule == "none" else [f"rules {rule}"]), *lines, "end"]
+        status, text, said = self.run_program(["recorded", *words], "".join(f"{it}\n" for it in lines))
+        self.assertEqual((status, said), (0, ""))
+        return text
+
     def test_pages_of_carriers(self):
         """Each block leaves a page of its carrier, so the next one is created with one more in use."""
         shown = section("flags.md", "Multiblock carriers")
@@ -131,7 +152,7 @@ class Files(unittest.TestCase):
         self.assertEqual((status, said, lines[:2], len(lines)), (0, "", ["type B", "scheduler 1"], 13))
         status, said, lines = self.load("record", "--type", "B", "--recorded")
         self.assertEqual((status, said), (0, ""))
-        self.assertEqual(lines, ["type B", "1 alloc 1 86", "1 realloc 1 2 538", "1 give 2 2", "2 take 2 1", "2 free 2", "end"])
+        self.assertEqual(lines, ["type B", "rules powers falling counter", "1 alloc 1 86", "1 realloc 1 2 538", "1 give 2 2", "2 take 2 1", "2 free 2", "end"])
 
 
 if __name__ == "__main__":

@@ -7,7 +7,7 @@ ghost use Rattle.ea_flags.specs.Configs.{fits_all};
 
 use crate::flag::Scope;
 use crate::setting::{Change, Setting};
-use ea_model::{Config, Letter, Settings, Strategy, pages_for};
+use ea_model::{Config, Letter, NO_RULES, Settings, Strategy, pages_for};
 
 /// The settings of an allocator, where no flag says otherwise.
 pub const DEFAULT_SETTINGS: Settings = Settings {
@@ -25,6 +25,7 @@ pub const DEFAULT_SETTINGS: Settings = Settings {
     rsbcst: 20,
     asbcst: 131_072,
     ramv: false,
+    rules: NO_RULES,
 };
 
 /// The configuration, where no flag says otherwise: one scheduler, a super carrier of 64 megabytes.

@@ -19,9 +19,10 @@ use Rattle.ea_model.specs.Instance.{created_content, created_single, creating, c
 use Rattle.ea_model.specs.Instance.{employed, free_run, has_content, is_used, own_at, own_of}
 use Rattle.ea_model.specs.Instance.{place_at, placing_at, plan, planned_own, releasing_at}
 use Rattle.ea_model.specs.Instance.{single_place, size_for, with_content, with_own, without_content}
-use Rattle.ea_model.specs.Instance.{without_own}
+use Rattle.ea_model.specs.Instance.{lessened, without_own}
 use Rattle.ea_model.specs.Employment.{dismissing, employing}
 use Rattle.ea_model.specs.Strategies.{candidates, choice_among, choice_empty, may_miss, or_else}
+use Rattle.ea_model.specs.Settings.{raised}
 use Rattle.ea_model.specs.Strategies.{spot_of}
 use Rattle.ea_instance.specs.Answers.{placing_if}
 use Rattle.ea_employed.specs.Binned.{has_bins}
@@ -44,7 +45,7 @@ use Rattle.ea_laws.proofs.Standing.{employed-multi, employed-rising, multi-apart
 use Rattle.ea_laws.proofs.Standing.{planned-alone, planned-apart, planned-new, releasing-Stands}
 use Rattle.ea_laws.proofs.Standing.{singles-few}
 use Rattle.ea_model.specs.declared.units.TheConstants.{MAX_PAGES, MAX_SCHEDULERS, MAX_UNITS}
-use Rattle.ea_model.specs.declared.units.TheConstants.{NUMBERS, PAGE_UNITS}
+use Rattle.ea_model.specs.declared.units.TheConstants.{NUMBERS, PAGE_UNITS, RELEASED_COUNT}
 use Rattle.ea_laws.proofs.Changed.{KeepsPlace, released-keeps}
 use Rattle.ea_laws.proofs.Contents.{absent-among}
 use Rattle.ea_model.proofs.Merged.{merged-apart, merged-each, merged-second, merged-without}
@@ -89,10 +90,10 @@ finds-all i need o is misses =
 
 -- an instance that stands is kept
 pub keeping : (s : Settings) (n : ℕ) (own : OwnList) (ks : CarrierList) (ss : List Content)
-    (created : ℕ) → ks.strategy ≡ s.strategy → ks.units ≡ PAGE_UNITS * (own.end - own.first)
-    → Stands (seen_as s n own ks ss created) → KeepsCarriers s n own ks ss created
-keeping s n own ks ss created strategy units stands =
-    let i = seen_as s n own ks ss created in
+    (created count : ℕ) → ks.strategy ≡ s.strategy → ks.units ≡ PAGE_UNITS * (own.end - own.first)
+    → Stands (seen_as s n own ks ss created count) → KeepsCarriers s n own ks ss created count
+keeping s n own ks ss created count strategy units stands =
+    let i = seen_as s n own ks ss created count in
     record {
       strategy = strategy;
       units = units;
@@ -122,9 +123,9 @@ is-none None h = refl
 is-none (Some x) h = absurd cc
 
 module _ (s : Settings) (n : ℕ) (own : OwnList) (ks : CarrierList) (ss : List Content)
-    (created : ℕ) (k : KeepsCarriers s n own ks ss created) where
+    (created count : ℕ) (k : KeepsCarriers s n own ks ss created count) where
   abbrev here : Instance
-  here = seen_as s n own ks ss created
+  here = seen_as s n own ks ss created count
 
   -- there are no more carriers than numbers
   pub kept-few : length ks.contents + length ss ≤ NUMBERS * MAX_SCHEDULERS
@@ -177,18 +178,18 @@ module _ (s : Settings) (n : ℕ) (own : OwnList) (ks : CarrierList) (ss : List 
   module _ (f : Content → Content) (keeps : KeepsPlace f) (number : ℕ) where
     -- a multiblock one
     pub changed-multi : (c : Content) → content_of ks.contents number ≡ Some c
-        → seen_as s n own (record ks { contents = changed f number ks.contents }) ss created
+        → seen_as s n own (record ks { contents = changed f number ks.contents }) ss created count
         ≡ changing here f number
     changed-multi c there =
         ap (λ xs. seen_as s n own (record ks { contents = changed f number ks.contents }) xs
-        created) (sym (changed_none number_of f number ss
+        created count) (sym (changed_none number_of f number ss
         (merged-apart number_of number c ks.contents ss (employed-rising here k.stands) there)))
 
     -- a singleblock one
     pub changed-single : content_of ks.contents number ≡ None
-        → seen_as s n own ks (changed f number ss) created ≡ changing here f number
+        → seen_as s n own ks (changed f number ss) created count ≡ changing here f number
     changed-single none =
-        ap (λ xs. seen_as s n own (record ks { contents = xs }) (changed f number ss) created)
+        ap (λ xs. seen_as s n own (record ks { contents = xs }) (changed f number ss) created count)
         (sym (changed_none number_of f number ks.contents
         (none-other number_of number ks.contents none)))
 
@@ -212,59 +213,72 @@ module _ (s : Settings) (n : ℕ) (own : OwnList) (ks : CarrierList) (ss : List 
 
     module _ (has : has_content spot.carrier now.contents ≡ true) (new : CarrierList)
         (is : new ≡ record ks { contents = changed f spot.carrier ks.contents }) where
+      abbrev less : ℕ
+      less = count - RELEASED_COUNT
+
       same : seen_as s n own (record ks { contents = changed f spot.carrier ks.contents }) ss
-          created ≡ releasing_at here spot
+          created less ≡ releasing_at here spot
       same =
           let (c, there) = multi-there now seen spot.carrier has in
-          changed-multi f (released-keeps spot.offset) spot.carrier c there
+          let here_too = ap (λ i. has_content spot.carrier i.contents) seen ∙ has in
+          ap {A = Instance} (λ i. record i { count = less })
+          (changed-multi f (released-keeps spot.offset) spot.carrier c there)
+          ∙ ap (λ b. record (changing here f spot.carrier)
+          { count = lessened b RELEASED_COUNT count }) (sym here_too)
 
-      pub seen-released : seen_as s n own new ss created ≡ releasing_at now spot
+      pub seen-released : seen_as s n own new ss created less ≡ releasing_at now spot
       seen-released =
-          ap (λ xs. seen_as s n own xs ss created) is ∙ same ∙ ap (λ i. releasing_at i spot) seen
+          ap (λ xs. seen_as s n own xs ss created less) is ∙ same ∙ ap (λ i. releasing_at i spot)
+          seen
 
-      pub kept-released : KeepsCarriers s n own new ss created
+      pub kept-released : KeepsCarriers s n own new ss created less
       kept-released =
-          subst (λ xs. KeepsCarriers s n own xs ss created) (sym is)
-          (keeping _ _ _ _ _ _ k.strategy k.units
+          subst (λ xs. KeepsCarriers s n own xs ss created less) (sym is)
+          (keeping _ _ _ _ _ _ _ k.strategy k.units
           (subst Stands (sym same) (releasing-Stands here spot k.stands)))
 
     -- after one in a singleblock carrier
     module _ (lacks : has_content spot.carrier now.contents ≡ false) (new : List Content)
         (is : new ≡ changed f spot.carrier ss) where
-      same_single : seen_as s n own ks (changed f spot.carrier ss) created ≡ releasing_at here spot
-      same_single = changed-single f (released-keeps spot.offset) spot.carrier
+      same_single : seen_as s n own ks (changed f spot.carrier ss) created count
+          ≡ releasing_at here spot
+      same_single =
+          let here_too = ap (λ i. has_content spot.carrier i.contents) seen ∙ lacks in
+          changed-single f (released-keeps spot.offset) spot.carrier
           (multi-none now seen spot.carrier lacks)
+          ∙ ap (λ b. record (changing here f spot.carrier)
+          { count = lessened b RELEASED_COUNT count }) (sym here_too)
 
-      pub seen-single-released : seen_as s n own ks new created ≡ releasing_at now spot
+      pub seen-single-released : seen_as s n own ks new created count ≡ releasing_at now spot
       seen-single-released =
-          ap (λ xs. seen_as s n own ks xs created) is ∙ same_single
+          ap (λ xs. seen_as s n own ks xs created count) is ∙ same_single
           ∙ ap (λ i. releasing_at i spot) seen
 
-      pub kept-single-released : KeepsCarriers s n own ks new created
+      pub kept-single-released : KeepsCarriers s n own ks new created count
       kept-single-released =
-          subst (λ xs. KeepsCarriers s n own ks xs created) (sym is)
-          (keeping _ _ _ _ _ _ k.strategy k.units
+          subst (λ xs. KeepsCarriers s n own ks xs created count) (sym is)
+          (keeping _ _ _ _ _ _ _ k.strategy k.units
           (subst Stands (sym same_single) (releasing-Stands here spot k.stands)))
 
   -- a carrier goes from those that are employed
   module _ (number : ℕ) where
     kept_dismissed : (new : CarrierList) (rest : List Content)
         → new ≡ record ks { contents = without_content number ks.contents }
-        → rest ≡ without_content number ss → KeepsCarriers s n own new rest created
+        → rest ≡ without_content number ss → KeepsCarriers s n own new rest created count
     kept_dismissed new rest is lacks =
-        subst (λ xs. KeepsCarriers s n own xs rest created) (sym is)
+        subst (λ xs. KeepsCarriers s n own xs rest created count) (sym is)
         (subst (λ ys. KeepsCarriers s n own
-        (record ks { contents = without_content number ks.contents }) ys created) (sym lacks)
-        (keeping _ _ _ _ _ _ k.strategy k.units (dismissing-Stands here number k.stands)))
+        (record ks { contents = without_content number ks.contents }) ys created count) (sym lacks)
+        (keeping _ _ _ _ _ _ _ k.strategy k.units (dismissing-Stands here number k.stands)))
 
     seen_dismissed : (now : Instance) → here ≡ now → (new : CarrierList) (rest : List Content)
         → new ≡ record ks { contents = without_content number ks.contents }
         → rest ≡ without_content number ss
-        → seen_as s n own new rest created ≡ dismissing now number
+        → seen_as s n own new rest created count ≡ dismissing now number
     seen_dismissed now seen new rest is lacks =
-        ap (λ xs. seen_as s n own xs rest created) is
+        ap (λ xs. seen_as s n own xs rest created count) is
         ∙ ap (λ ys. seen_as s n own
-        (record ks { contents = without_content number ks.contents }) ys created) lacks
+        (record ks { contents = without_content number ks.contents }) ys created count) lacks
         ∙ ap (λ i. dismissing i number) seen
 
     -- a multiblock one
@@ -274,11 +288,11 @@ module _ (s : Settings) (n : ℕ) (own : OwnList) (ks : CarrierList) (ss : List 
       others = sym (without_none number_of number ss
           (merged-apart number_of number x ks.contents ss (employed-rising here k.stands) multi))
 
-      pub kept-dismissed : KeepsCarriers s n own new ss created
+      pub kept-dismissed : KeepsCarriers s n own new ss created count
       kept-dismissed = kept_dismissed new ss is others
 
       pub seen-dismissed : (now : Instance) → here ≡ now
-          → seen_as s n own new ss created ≡ dismissing now number
+          → seen_as s n own new ss created count ≡ dismissing now number
       seen-dismissed now seen = seen_dismissed now seen new ss is others
 
     -- a singleblock one
@@ -300,11 +314,11 @@ module _ (s : Settings) (n : ℕ) (own : OwnList) (ks : CarrierList) (ss : List 
       pub found-dismissed : content_of (employed here) number ≡ Some x
       found-dismissed = all-single number no_multi ∙ single
 
-      pub kept-single-dismissed : KeepsCarriers s n own ks rest created
+      pub kept-single-dismissed : KeepsCarriers s n own ks rest created count
       kept-single-dismissed = kept_dismissed ks rest same_list lacks
 
       pub seen-single-dismissed : (now : Instance) → here ≡ now
-          → seen_as s n own ks rest created ≡ dismissing now number
+          → seen_as s n own ks rest created count ≡ dismissing now number
       seen-single-dismissed now seen = seen_dismissed now seen ks rest same_list lacks
 
   -- it is employed no longer
@@ -321,9 +335,9 @@ module _ (s : Settings) (n : ℕ) (own : OwnList) (ks : CarrierList) (ss : List 
   module _ (number : ℕ) (o : OwnCarrier) (there : own_at own.carriers number ≡ Some o)
       (none : content_of (employed here) number ≡ None) (left : OwnList)
       (gone : left ≡ record own { carriers = without_own number own.carriers }) where
-    pub kept-disowned : KeepsCarriers s n left ks ss created
-    kept-disowned = subst (λ os. KeepsCarriers s n os ks ss created) (sym gone)
-        (keeping _ _ _ _ _ _ k.strategy k.units
+    pub kept-disowned : KeepsCarriers s n left ks ss created count
+    kept-disowned = subst (λ os. KeepsCarriers s n os ks ss created count) (sym gone)
+        (keeping _ _ _ _ _ _ _ k.strategy k.units
         (disowning-Stands here number o k.stands there none))
 
   -- a carrier comes
@@ -351,9 +365,9 @@ module _ (s : Settings) (n : ℕ) (own : OwnList) (ks : CarrierList) (ss : List 
 
     pub kept-adopted : (new : CarrierList)
         → new ≡ record ks { contents = with_content x ks.contents }
-        → KeepsCarriers s n own new ss created
-    kept-adopted new is = subst (λ xs. KeepsCarriers s n own xs ss created) (sym is)
-        (keeping _ _ _ _ _ _ k.strategy k.units more)
+        → KeepsCarriers s n own new ss created count
+    kept-adopted new is = subst (λ xs. KeepsCarriers s n own xs ss created count) (sym is)
+        (keeping _ _ _ _ _ _ _ k.strategy k.units more)
 
   -- where the carriers choose no gap the instance does not
   pub none-chosen : (need : ℕ) (now : Instance) → here ≡ now
@@ -401,30 +415,34 @@ module _ (s : Settings) (n : ℕ) (own : OwnList) (ks : CarrierList) (ss : List 
         (is : new ≡ record ks {
           contents =
               changed (λ c. placed c x.offset need name) x.number ks.contents;
-        }) where
-      pub seen-placed : seen_as s n own new ss created
+        }) (more : ℕ) (raises : more ≡ raised s count) where
+      pub seen-placed : seen_as s n own new ss created more
           ≡ placing_if now (chosen_spot now need) need name
       seen-placed =
-          ap (λ ys. seen_as s n own ys ss created) is
+          ap (λ ys. seen_as s n own ys ss created more) is
+          ∙ ap (λ m. seen_as s n own (record ks {
+            contents = changed (λ c. placed c x.offset need name) x.number ks.contents;
+          }) ss created m) raises
           ∙ ap (λ i. placing_at i (spot_of x) need name) seen
           ∙ ap (λ o. placing_if now o need name) chosen_here
 
-      pub kept-placed : KeepsCarriers s n own new ss created
+      pub kept-placed : KeepsCarriers s n own new ss created more
       kept-placed =
-          subst (λ xs. KeepsCarriers s n own xs ss created) (sym is)
-          (keeping _ _ _ _ _ _ k.strategy k.units
-          (placing-Stands here (spot_of x) need name k.stands has-gap least even))
+          subst (λ m. KeepsCarriers s n own new ss created m) (sym raises)
+          (subst (λ xs. KeepsCarriers s n own xs ss created (raised s count)) (sym is)
+          (keeping _ _ _ _ _ _ _ k.strategy k.units
+          (placing-Stands here (spot_of x) need name k.stands has-gap least even)))
 
       pub blocks-placed : (size : ℕ)
           → size ≡ size_for (content_of ks.contents x.number) x.offset need
-          → IsPlaced (employed now) (employed (seen_as s n own new ss created)) name
+          → IsPlaced (employed now) (employed (seen_as s n own new ss created more)) name
           (record { carrier = x.number; offset = x.offset; size = size })
       blocks-placed size sized =
           subst (λ (i : Instance). IsPlaced (employed i)
-          (employed (seen_as s n own new ss created)) name
+          (employed (seen_as s n own new ss created more)) name
           (record { carrier = x.number; offset = x.offset; size = size })) seen
           (subst (λ (ys : CarrierList). IsPlaced (employed here)
-          (employed (seen_as s n own ys ss created)) name
+          (employed (seen_as s n own ys ss created more)) name
           (record { carrier = x.number; offset = x.offset; size = size })) (sym is)
           (subst (λ m. IsPlaced (employed here) (employed (placing_at here (spot_of x) need name))
           name (record { carrier = x.number; offset = x.offset; size = m })) (sym sized)
@@ -492,7 +510,7 @@ module _ (s : Settings) (n : ℕ) (own : OwnList) (ks : CarrierList) (ss : List 
     pub few-own : length own.carriers < NUMBERS
     few-own = has-number here need p k.stands.orderly.kept asked_here
 
-    -- its pages are the lowest free run of the region that holds them
+    -- its pages are where a segment of as many is placed
     pub free-run : free_run here p.pages ≡ Some p.base
     free-run = (plan-IsPlanned here need p asked_here).run
 
@@ -506,38 +524,39 @@ module _ (s : Settings) (n : ℕ) (own : OwnList) (ks : CarrierList) (ss : List 
           (is : new ≡ record ks {
             contents = with_content (created_content n Multi p) ks.contents;
           }) where
-        pub kept-created : KeepsCarriers s n more new ss p.birth
+        pub kept-created : KeepsCarriers s n more new ss p.birth count
         kept-created =
-            subst (λ ys. KeepsCarriers s n more ys ss p.birth) (sym is)
+            subst (λ ys. KeepsCarriers s n more ys ss p.birth count) (sym is)
             (subst (λ os. KeepsCarriers s n os
             (record ks { contents = with_content (created_content n Multi p) ks.contents }) ss
-            p.birth) (sym added) (keeping _ _ _ _ _ _ k.strategy k.units
+            p.birth count) (sym added) (keeping _ _ _ _ _ _ _ k.strategy k.units
             (creating-Stands here need p k.stands asked_here)))
 
-        pub seen-created : seen_as s n more new ss p.birth ≡ creating now p
+        pub seen-created : seen_as s n more new ss p.birth count ≡ creating now p
         seen-created =
-            ap (λ ys. seen_as s n more ys ss p.birth) is
+            ap (λ ys. seen_as s n more ys ss p.birth count) is
             ∙ ap (λ os. seen_as s n os
             (record ks { contents = with_content (created_content n Multi p) ks.contents }) ss
-            p.birth) added ∙ ap (λ i. creating i p) seen
+            p.birth count) added ∙ ap (λ i. creating i p) seen
 
       -- a singleblock one
       module _ (name : ℕ) (least : 6 ≤ need) (even : need % 2 ≡ 0) (new : List Content)
           (is : new ≡ with_content (created_single n p need name) ss) where
-        pub kept-single-created : KeepsCarriers s n more ks new p.birth
+        pub kept-single-created : KeepsCarriers s n more ks new p.birth count
         kept-single-created =
-            subst (λ ys. KeepsCarriers s n more ks ys p.birth) (sym is)
+            subst (λ ys. KeepsCarriers s n more ks ys p.birth count) (sym is)
             (subst (λ os. KeepsCarriers s n os ks
-            (with_content (created_single n p need name) ss) p.birth) (sym added) (keeping _ _ _ _
-            _ _ k.strategy k.units
+            (with_content (created_single n p need name) ss) p.birth count) (sym added) (keeping _ _
+            _ _
+            _ _ _ k.strategy k.units
             (creating_single-Stands here need p k.stands asked_here name least even)))
 
-        pub seen-single-created : seen_as s n more ks new p.birth
+        pub seen-single-created : seen_as s n more ks new p.birth count
             ≡ creating_single now p need name
         seen-single-created =
-            ap (λ ys. seen_as s n more ks ys p.birth) is
+            ap (λ ys. seen_as s n more ks ys p.birth count) is
             ∙ ap (λ os. seen_as s n os ks (with_content (created_single n p need name) ss)
-            p.birth) added ∙ ap (λ i. creating_single i p need name) seen
+            p.birth count) added ∙ ap (λ i. creating_single i p need name) seen
 
     pub blocks-created : HaveSameBlocks (employed now) (employed (creating now p))
     blocks-created =

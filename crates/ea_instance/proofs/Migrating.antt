@@ -1,5 +1,5 @@
 -- Which carriers migrate.
-use Rattle.std.specs.Prelude.{Option, None, Some, IfSome, ◌&&◌, not}
+use Rattle.std.specs.Prelude.{Bool, nat_le, Option, None, Some, IfSome, ◌&&◌, not}
 use Rattle.std.proofs.Common.{All, List, ◌≡◌, ℕ, zero, suc, ◌<◌, true, false, refl, sym, ap}
 use Rattle.std.proofs.Common.{◌∙◌, arith}
 use Rattle.ea_model.specs.declared.settings.Settings.{Settings}
@@ -39,13 +39,19 @@ bins-stay s valid bins = by s.acul refl where
       absurd (let never : true ≡ false = sym bins
       ∙ migrates-no_bins s valid (omega (arith, q)) in cc)
 
+and_false : (b : Bool) → b && false ≡ false
+and_false true = refl
+and_false false = refl
+
 -- no singleblock carrier is abandoned
-pub singles-stay : (s : Settings) (xs : List Content) (number : ℕ) (ss : List Content)
-    → All IsLaidOutAlone ss → IfSome (content_of ss number) (λ x. false ≡ is_due s xs x)
-singles-stay s xs number ss alone = by (content_of ss number) refl where
-  by : (o : Option Content) → content_of ss number ≡ o → IfSome o (λ x. false ≡ is_due s xs x)
+pub singles-stay : (s : Settings) (count : ℕ) (xs : List Content) (number : ℕ) (ss : List Content)
+    → All IsLaidOutAlone ss → IfSome (content_of ss number) (λ x. false ≡ is_due s count xs x)
+singles-stay s count xs number ss alone = by (content_of ss number) refl where
+  by : (o : Option Content) → content_of ss number ≡ o
+      → IfSome o (λ x. false ≡ is_due s count xs x)
   by None none = tt
   by (Some x) there =
-      sym (ap (λ k. is_multi k && not (is_nil x.blocks)
-      && (is_sparse_carrier s x && are_sparse s xs && has_large_gap s x))
-      (item_at-All number_of IsLaidOutAlone number x ss alone there).single)
+      sym (ap (λ k. nat_le count 0 && (is_multi k && not (is_nil x.blocks)
+      && (is_sparse_carrier s x && are_sparse s xs && has_large_gap s x)))
+      (item_at-All number_of IsLaidOutAlone number x ss alone there).single
+      ∙ and_false (nat_le count 0))

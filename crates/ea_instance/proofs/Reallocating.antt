@@ -1,7 +1,7 @@
 -- What a reallocation in place makes of an instance.
 use Rattle.std.proofs.Common.{◌≡◌, ◌≢◌, ℕ, ◌+◌, ◌*◌, ◌/◌, ◌%◌, ◌<◌, ◌≤◌, List, [], ◌∷◌, All, sym}
-use Rattle.std.proofs.Common.{false, ap, ◌∙◌, subst, refl, inl, inr, arith}
-use Rattle.std.specs.Prelude.{◌↔◌, Option, Some, None, IsNone, IsSome, IfSome}
+use Rattle.std.proofs.Common.{◌-◌, Bool, true, false, ap, ◌∙◌, subst, refl, inl, inr, arith}
+use Rattle.std.specs.Prelude.{◌↔◌, Option, Some, None, IsNone, IsSome, IfSome, is_some}
 use Rattle.std.proofs.lemmas.Bool.{cases_eq}
 use Rattle.std.proofs.lemmas.List.Elements.{All-head, All-tail}
 use Rattle.ea_model.specs.declared.carriers.BlockAt.{BlockAt}
@@ -11,11 +11,12 @@ use Rattle.ea_model.specs.declared.reallocation.Decision.TheVariants.{Stay, Shri
 use Rattle.ea_model.specs.declared.reallocation.Decision.TheVariants.{ShrinkCarrier, Move}
 use Rattle.ea_model.specs.declared.reallocation.Where.TheVariants.{Multi, Single}
 use Rattle.ea_model.specs.declared.settings.Settings.{Settings}
+use Rattle.ea_model.specs.declared.units.TheConstants.{RESIZED_COUNT}
 use Rattle.ea_model.specs.Content.{Content, allocated, block_at, gap_behind, resized, size_of}
 use Rattle.ea_model.specs.Decision.{decision, size_after}
 use Rattle.ea_model.specs.Instance.{Instance, block_in, changed, content_of, decision_at, employed}
 use Rattle.ea_model.specs.Instance.{own_at, own_of, resized_by, resized_in, resized_to, resizing_at}
-use Rattle.ea_model.specs.Instance.{has_content, shortened}
+use Rattle.ea_model.specs.Instance.{has_content, lessened, resized_more, shortened}
 use Rattle.ea_model.specs.Keyed.{changed_at}
 use Rattle.ea_model.proofs.Options.{same-some, some_value}
 use Rattle.ea_model.proofs.Rising.{changed-found, changed_here, changed_past, item_at-All}
@@ -54,13 +55,38 @@ in-place GrowHere stays keeps = tt
 in-place (ShrinkCarrier pages) stays keeps = keeps pages refl
 in-place Move stays keeps = stays refl
 
-resized_here : (d : Decision) → IsInPlace d → (i : Instance) (spot : Spot) (size name : ℕ)
-    → resized_in i spot size name ≡ resized_by d i spot size name
-resized_here Stay place i spot size name = refl
-resized_here ShrinkHere place i spot size name = refl
-resized_here GrowHere place i spot size name = refl
-resized_here (ShrinkCarrier pages) place i spot size name = absurd place
-resized_here Move place i spot size name = absurd place
+-- the count after that in a multiblock carrier
+abbrev pub count_after : Decision → ℕ → ℕ
+count_after Stay count = count
+count_after ShrinkHere count = count - RESIZED_COUNT
+count_after GrowHere count = count - RESIZED_COUNT
+count_after (ShrinkCarrier pages) count = count
+count_after Move count = count
+
+module _ (i : Instance) (spot : Spot) (size name : ℕ) where
+  -- where the carrier is a multiblock one, or another one
+  counted : (multi : Bool) → has_content spot.carrier i.contents ≡ multi
+      → record (resized_in i spot size name) { count = lessened multi RESIZED_COUNT i.count }
+      ≡ resized_more i spot size name
+  counted multi is = ap (λ b. record (resized_in i spot size name)
+      { count = lessened b RESIZED_COUNT i.count }) (sym is)
+
+  resized_here : (d : Decision) → IsInPlace d → has_content spot.carrier i.contents ≡ true
+      → record (resized_in i spot size name) { count = count_after d i.count }
+      ≡ resized_by d i spot size name
+  resized_here Stay place is = refl
+  resized_here ShrinkHere place is = counted true is
+  resized_here GrowHere place is = counted true is
+  resized_here (ShrinkCarrier pages) place is = absurd place
+  resized_here Move place is = absurd place
+
+  resized_alone : (d : Decision) → IsInPlace d → has_content spot.carrier i.contents ≡ false
+      → resized_in i spot size name ≡ resized_by d i spot size name
+  resized_alone Stay place is = refl
+  resized_alone ShrinkHere place is = counted false is
+  resized_alone GrowHere place is = counted false is
+  resized_alone (ShrinkCarrier pages) place is = absurd place
+  resized_alone Move place is = absurd place
 
 -- changes that make the same of the content with the number
 changed_same : (f g : Content → Content) (n : ℕ) (item : Content) (cs : List Content)
@@ -119,19 +145,20 @@ abbrev pub units_by : Decision → ℕ → ℕ → Content → ℕ
 units_by d offset need x = size_after d (size_of (block_at x.blocks offset)) need
     (Multi (gap_behind x offset))
 
-pub record IsCarriedOut (s : Settings) (n : ℕ) (own : OwnList) (ss : List Content) (created : ℕ)
+pub record IsCarriedOut (s : Settings) (n : ℕ) (own : OwnList) (ss : List Content) (created count :
+    ℕ)
     (spot : Spot) (need name : ℕ) (now : Instance) (c : Content) (d : Decision) (new : CarrierList)
     : Type 0 where
-  pub kept : KeepsCarriers s n own new ss created
-  pub seen : seen_as s n own new ss created ≡ resizing_at now spot need name
+  pub kept : KeepsCarriers s n own new ss created count
+  pub seen : seen_as s n own new ss created count ≡ resizing_at now spot need name
   pub told : units_by d spot.offset need c ≡ resized_to now spot need
 
 module _ (s : Settings) (n : ℕ) (own : OwnList) (ks : CarrierList) (ss : List Content)
-    (created : ℕ) (k : KeepsCarriers s n own ks ss created) (spot : Spot) (need : ℕ)
-    (now : Instance) (seen : seen_as s n own ks ss created ≡ now)
+    (created count : ℕ) (k : KeepsCarriers s n own ks ss created count) (spot : Spot) (need : ℕ)
+    (now : Instance) (seen : seen_as s n own ks ss created count ≡ now)
     (some : IsSome (block_in (employed now) spot)) where
   abbrev here : Instance
-  here = seen_as s n own ks ss created
+  here = seen_as s n own ks ss created count
 
   abbrev number : ℕ
   number = spot.carrier
@@ -210,7 +237,7 @@ module _ (s : Settings) (n : ℕ) (own : OwnList) (ks : CarrierList) (ss : List 
         abbrev after : Instance
         after = seen_as s n own (record ks {
           contents = changed (λ x. resized x offset (units x) name) number ks.contents;
-        }) ss created
+        }) ss created (count_after e count)
 
         units_there : units c ≡ resized_to here spot need
         units_there =
@@ -223,23 +250,26 @@ module _ (s : Settings) (n : ℕ) (own : OwnList) (ks : CarrierList) (ss : List 
         is_then =
             let size = resized_to here spot need in
             let g : Content → Content = λ x. resized x offset size name in
-            ap (λ cs. seen_as s n own (record ks { contents = cs }) ss created)
+            ap (λ cs. seen_as s n own (record ks { contents = cs }) ss created
+            (count_after e count))
             (changed_same (λ x. resized x offset (units x) name) g number c ks.contents
             (only-item number c ks.contents k.laid.rising there)
             (ap (λ m. resized c offset m name) units_there))
-            ∙ changed-multi s n own ks ss created k g (resized-keeps offset size name) number c
-            there
-            ∙ resized_here e place here spot size name
+            ∙ ap {A = Instance} (λ i. record i { count = count_after e count })
+            (changed-multi s n own ks ss created count k g (resized-keeps offset size name) number c
+            there)
+            ∙ resized_here here spot size name e place (ap is_some there)
             ∙ ap (λ x. resized_by x here spot size name) (sym (decided_here d decided ∙ arm))
 
-        pub carried-out : IsCarriedOut s n own ss created spot need name now c e new
+        pub carried-out : IsCarriedOut s n own ss created (count_after e count) spot need name now c
+            e new
         carried-out = record {
           kept =
-              subst (λ xs. KeepsCarriers s n own xs ss created) (sym is)
-              (keeping _ _ _ _ _ _ k.strategy k.units
+              subst (λ xs. KeepsCarriers s n own xs ss created (count_after e count)) (sym is)
+              (keeping _ _ _ _ _ _ _ k.strategy k.units
               (subst Stands (sym is_then) (stands_then name least even)));
           seen =
-              ap (λ xs. seen_as s n own xs ss created) is ∙ is_then
+              ap (λ xs. seen_as s n own xs ss created (count_after e count)) is ∙ is_then
               ∙ ap (λ i. resizing_at i spot need name) seen;
           told = units_there ∙ ap (λ i. resized_to i spot need) seen;
         }
@@ -247,10 +277,10 @@ module _ (s : Settings) (n : ℕ) (own : OwnList) (ks : CarrierList) (ss : List 
   -- in a singleblock carrier
   module _ (lacks : has_content number now.contents ≡ false) where
     none : content_of ks.contents number ≡ None
-    none = multi-none s n own ks ss created k now seen number lacks
+    none = multi-none s n own ks ss created count k now seen number lacks
 
     block_alone : IsSome (block_in ss spot)
-    block_alone = subst IsSome (block-single s n own ks ss created k spot none) some_here
+    block_alone = subst IsSome (block-single s n own ks ss created count k spot none) some_here
 
     abbrev IsAlone : Type 0
     IsAlone = (c : Content) × (b : BlockAt) × (content_of ss number ≡ Some c)
@@ -317,13 +347,14 @@ module _ (s : Settings) (n : ℕ) (own : OwnList) (ks : CarrierList) (ss : List 
         f x = resized x 8 need name
 
         abbrev then_alone : Instance
-        then_alone = seen_as s n own ks (changed f number ss) created
+        then_alone = seen_as s n own ks (changed f number ss) created count
 
         is_alone : then_alone ≡ resized_in here spot need name
         is_alone =
-            ap (λ o. seen_as s n own ks (changed (λ x. resized x o need name) number ss) created)
+            ap (λ o. seen_as s n own ks (changed (λ x. resized x o need name) number ss) created
+            count)
             (sym one_here.0)
-            ∙ changed-single s n own ks ss created k (λ x. resized x offset need name)
+            ∙ changed-single s n own ks ss created count k (λ x. resized x offset need name)
             (resized-keeps offset need name) number none
 
         is_resized : (size : ℕ) → size ≡ need → then_alone ≡ resized_in here spot size name
@@ -335,17 +366,17 @@ module _ (s : Settings) (n : ℕ) (own : OwnList) (ks : CarrierList) (ss : List 
           is_there =
               let size = resized_to here spot need in
               is_resized size (to_need d refl (size_after_single d refl place))
-              ∙ resized_here d place here spot size name
+              ∙ resized_alone here spot size name d place (ap is_some none)
               ∙ ap (λ x. resized_by x here spot size name) (sym (decided_here d decided))
 
-          pub seen-single : seen_as s n own ks new created ≡ resizing_at now spot need name
-          seen-single = ap (λ xs. seen_as s n own ks xs created) is ∙ is_there
+          pub seen-single : seen_as s n own ks new created count ≡ resizing_at now spot need name
+          seen-single = ap (λ xs. seen_as s n own ks xs created count) is ∙ is_there
               ∙ ap (λ i. resizing_at i spot need name) seen
 
-          pub kept-single : KeepsCarriers s n own ks new created
+          pub kept-single : KeepsCarriers s n own ks new created count
           kept-single =
-              subst (λ xs. KeepsCarriers s n own ks xs created) (sym is)
-              (keeping _ _ _ _ _ _ k.strategy k.units
+              subst (λ xs. KeepsCarriers s n own ks xs created count) (sym is)
+              (keeping _ _ _ _ _ _ _ k.strategy k.units
               (subst Stands (sym is_there) (stands_then name least even)))
 
         -- it has fewer
@@ -417,17 +448,17 @@ module _ (s : Settings) (n : ℕ) (own : OwnList) (ks : CarrierList) (ss : List 
             is_last : end ≡ last
             is_last = ends ∙ ap (changed (with_units pages) number) is
 
-            pub seen-less : seen_as s n left ks end created ≡ resizing_at now spot need name
+            pub seen-less : seen_as s n left ks end created count ≡ resizing_at now spot need name
             seen-less =
-                ap (λ os. seen_as s n os ks end created) gone
-                ∙ ap (λ xs. seen_as s n less_own ks xs created) is_last ∙ is_less
+                ap (λ os. seen_as s n os ks end created count) gone
+                ∙ ap (λ xs. seen_as s n less_own ks xs created count) is_last ∙ is_less
                 ∙ ap (λ i. resizing_at i spot need name) seen
 
-            pub kept-less : KeepsCarriers s n left ks end created
+            pub kept-less : KeepsCarriers s n left ks end created count
             kept-less =
-                subst (λ os. KeepsCarriers s n os ks end created) (sym gone)
-                (subst (λ xs. KeepsCarriers s n less_own ks xs created) (sym is_last)
-                (keeping _ _ _ _ _ _ k.strategy k.units stands_less))
+                subst (λ os. KeepsCarriers s n os ks end created count) (sym gone)
+                (subst (λ xs. KeepsCarriers s n less_own ks xs created count) (sym is_last)
+                (keeping _ _ _ _ _ _ _ k.strategy k.units stands_less))
 
 -- what is told of a reallocation, and what it makes of the instance
 pub record IsAnswer (now new : Instance) (spot : Spot) (need name : ℕ) (told : Option ℕ) : Type 0

@@ -10,8 +10,9 @@ use Rattle.ea_employed.specs.Listed.{CarrierList}
 use Rattle.ea_instance.specs.Own.{OwnList}
 
 -- the instance of these fields
-abbrev pub seen_as : Settings → ℕ → OwnList → CarrierList → List Content → ℕ → Instance
-seen_as settings number own carriers singles created = record {
+abbrev pub seen_as : Settings → ℕ → OwnList → CarrierList → List Content → ℕ → ℕ
+    → Instance
+seen_as settings number own carriers singles created count = record {
   settings = settings;
   number = number;
   first = own.first;
@@ -20,13 +21,14 @@ seen_as settings number own carriers singles created = record {
   contents = carriers.contents;
   singles = singles;
   created = created;
+  count = count;
 }
 
 -- the carriers choose by the settings' strategy, may have as many units together as the region, and
 -- are laid out, and the instance stands
 pub record KeepsCarriers (settings : Settings) (number : ℕ) (own : OwnList)
-    (carriers : CarrierList) (singles : List Content) (created : ℕ) : Type 0 where
+    (carriers : CarrierList) (singles : List Content) (created count : ℕ) : Type 0 where
   pub strategy : carriers.strategy ≡ settings.strategy
   pub units : carriers.units ≡ PAGE_UNITS * (own.end - own.first)
   pub laid : AreLaid carriers.contents
-  pub stands : Stands (seen_as settings number own carriers singles created)
+  pub stands : Stands (seen_as settings number own carriers singles created count)

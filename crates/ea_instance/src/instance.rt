@@ -9,7 +9,7 @@ ghost use Rattle.ea_model.specs.declared.carriers.CarrierPlan.{CarrierPlan};
 ghost use Rattle.ea_model.specs.declared.reallocation.Decision.TheVariants.{Move};
 ghost use Rattle.ea_model.specs.declared.units.TheConstants.{MAX_PAGES, MAX_PERCENT};
 ghost use Rattle.ea_model.specs.declared.units.TheConstants.{MAX_SCHEDULERS, MAX_UNITS, MIN_BLOCK};
-ghost use Rattle.ea_model.specs.declared.units.TheConstants.{NUMBERS};
+ghost use Rattle.ea_model.specs.declared.units.TheConstants.{NUMBERS, RELEASED_COUNT};
 ghost use Rattle.ea_model.specs.Content.{Content, named};
 ghost use Rattle.ea_model.specs.declared.entries.NoCarrier.TheVariants.{Numbers, Space};
 ghost use Rattle.ea_model.specs.Region.{runs};
@@ -20,6 +20,7 @@ ghost use Rattle.ea_model.specs.Instance.{carrier_line, main_content, new_instan
 ghost use Rattle.ea_model.specs.Instance.{is_alone, multis, unused_from, plan, created_content};
 ghost use Rattle.ea_model.specs.Instance.{creating, creating_single, chosen_spot, employed};
 ghost use Rattle.ea_model.specs.Instance.{single_place, place_at, releasing_at, own_of, resized_to};
+ghost use Rattle.ea_model.specs.Instance.{lowered, refilled, rounded};
 ghost use Rattle.ea_model.specs.Instance.{resizing_at, decision_at, content_of, block_in};
 ghost use Rattle.ea_model.specs.Instance.{has_content, has_vacant, is_used, own_at, segments};
 ghost use Rattle.ea_model.specs.Instance as instances;
@@ -40,9 +41,9 @@ use ea_employed::{Carriers, Employed, Found, Singles};
 use ea_mbc::{Mbc, Spare};
 use ea_model::keyed::item_of;
 use ea_model::{
-    Block, CarrierLine, CarrierPlan, Decision, Figures, HEADER_UNITS, Kind, NUMBERS, NoCarrier,
-    OutOfMemory, PAGE_UNITS, Place, Settings, Spot, UNIT_BYTES, Where, first_number, least_pages,
-    pages_for,
+    Block, CarrierLine, CarrierPlan, Decision, Figures, HEADER_UNITS, Kind, MIN_POWER_PAGES,
+    NUMBERS, NoCarrier, OutOfMemory, PAGE_UNITS, Place, RELEASED_COUNT, RESIZED_COUNT, Settings,
+    Spot, UNIT_BYTES, Where, first_number, least_pages, pages_for,
 };
 use ea_resize::decide;
 use ea_sbc::Sbc;
@@ -51,8 +52,8 @@ use std::marker::Model;
 
 /// An allocator instance. Contracts see its settings, its number, its region, the carriers that it
 /// owns, the contents of multiblock and of singleblock carriers that it employs, each by rising
-/// number, and how many carriers it created. Beside these it keeps carriers that were deallocated,
-/// of which the next ones can be made.
+/// number, how many carriers it created, and its count, which holds back abandoning. Beside these
+/// it keeps carriers that were deallocated, of which the next ones can be made.
 pub struct Instance {
     settings: Settings,
     number: u32,
@@ -60,6 +61,7 @@ pub struct Instance {
     carriers: Carriers,
     singles: Singles,
     created: u32,
+    count: u32,
     pub(crate) spare: Spare,
 }
 
@@ -73,6 +75,7 @@ impl Drop for Instance {
             carriers,
             singles,
             created: _,
+            count: _,
             spare,
         } = self;
         drop(own);
@@ -88,10 +91,11 @@ impl Model for Instance {
 
     ghost Value = { Instance };
 
-    ghost view = { λ i. seen_as i.settings i.number i.own i.carriers i.singles i.created };
+    ghost view = { λ i. seen_as i.settings i.number i.own i.carriers i.singles i.created
+        i.count };
 
     ghost invariant = { λ i.
-        KeepsCarriers i.settings i.number i.own i.carriers i.singles i.created };
+        KeepsCarriers i.settings i.number i.own i.carriers i.singles i.created i.count };
 }
 
 /// The units of the next multiblock carrier after `count` others.
@@ -135,14 +139,15 @@ fn is_sparse(settings: Settings, used: u64, units: u64) -> bool
 }
 
 /// Whether the carrier of some that come to the figures is to be abandoned.
-fn is_due(settings: Settings, figures: Figures, multi: &Employed) -> bool
+fn is_due(settings: Settings, count: u32, figures: Figures, multi: &Employed) -> bool
     requires valid { settings.acul ≤ MAX_PERCENT }
     requires blocks { figures.blocks_size ≤ MAX_UNITS * (NUMBERS * MAX_SCHEDULERS) }
     requires units { figures.carriers_size ≤ MAX_UNITS * (NUMBERS * MAX_SCHEDULERS) }
     ensures { (cs : Items Content) → figures ≡ instances.figures cs
-        → result ≡ is_due settings cs multi.now }
+        → result ≡ is_due settings count cs multi.now }
 {
-    multi.is_full_multi()
+    count == 0
+        && multi.is_full_multi()
         && is_sparse(
             settings,
             u64::from(multi.allocated()),
@@ -190,6 +195,7 @@ impl Instance {
             carriers,
             singles,
             created,
+            count: settings.most_count(),
             spare: Spare::new(alloc, units),
         })
     }
@@ -323,6 +329,7 @@ impl Instance {
     {
         let choice = self.carriers.chosen(need, self.settings.mbsd)?;
         let size = self.carriers.place(choice, need, name);
+        self.count = self.settings.raised(self.count);
         Some(Place {
             carrier: choice.candidate.number,
             offset: choice.candidate.offset,
@@ -330,13 +337,33 @@ impl Instance {
         })
     }
 
-    /// The pages of the next multiblock carrier: as many as it would have by its turn, and no fewer
-    /// than `least`.
-    fn next_pages(&self, least: u32) -> u32
-        ensures { result ≡ max least
-            (pages_for (growth self.now.settings (multis self.now.contents))) }
+    /// Its count is as great as can be: an allocation has no choice, or has a carrier of its own.
+    pub fn refill(&mut self)
+        ensures { self.new ≡ refilled self.old }
     {
-        least.max(pages_for(growth(self.settings, self.carriers.multi_count())))
+        self.count = self.settings.most_count();
+    }
+
+    /// Its count after a block was released in a main or multiblock carrier, which may be in the
+    /// hand.
+    pub fn lower_count(&mut self)
+        ensures { self.new ≡ lowered RELEASED_COUNT self.old }
+    {
+        self.count = self.count.saturating_sub(RELEASED_COUNT);
+    }
+
+    /// The pages of the next multiblock carrier: as many as it would have by its turn, and no fewer
+    /// than `least`; by the rule `powers` the least power of two that is as great, 64 at least.
+    fn next_pages(&self, least: u32) -> u32
+        requires { least ≤ 2 ^ 31 }
+        ensures { result ≡ rounded self.now.settings (max least
+            (pages_for (growth self.now.settings (multis self.now.contents)))) }
+    {
+        let pages = least.max(pages_for(growth(self.settings, self.carriers.multi_count())));
+        if self.settings.rules.powers {
+            return pages.next_power_of_two().max(MIN_POWER_PAGES);
+        }
+        pages
     }
 
     /// Whether a block of `need` units has a carrier of its own: it is above the threshold `sbct`.
@@ -367,9 +394,10 @@ impl Instance {
         };
         let least = least_pages(need);
         let wanted = if alone { least } else { self.next_pages(least) };
-        match self.own.free_run(wanted) {
+        let falling = self.settings.rules.falling;
+        match self.own.free_run(falling, wanted) {
             Some(base) => Ok(self.planned(number, base, wanted, alone)),
-            None => match self.own.free_run(least) {
+            None => match self.own.free_run(falling, least) {
                 Some(base) => Ok(self.planned(number, base, least, alone)),
                 None => Err(NoCarrier::Space),
             },
@@ -461,6 +489,7 @@ impl Instance {
             → block_in (employed self.new) at ≡ block_in (employed self.old) at }
     {
         if let Some(found) = self.find_multi(spot.carrier) {
+            self.count = self.count.saturating_sub(RELEASED_COUNT);
             return self.carriers.release(found, spot.offset);
         }
         self.singles.release(spot.carrier, spot.offset);
@@ -468,15 +497,16 @@ impl Instance {
     }
 
     /// Whether the carrier is to be abandoned: it isn't the main one and not empty, it is sparse,
-    /// and so are all main and multiblock carriers together, and its largest gap is large enough.
+    /// and so are all main and multiblock carriers together, its largest gap is large enough, and
+    /// the count is 0.
     pub fn due(&self, number: u32) -> bool
         requires { has_content number (employed self.now) ≡ true }
         ensures { IfSome (content_of (employed self.now) number)
-            (λ c. result ≡ is_due self.now.settings self.now.contents c) }
+            (λ c. result ≡ is_due self.now.settings self.now.count self.now.contents c) }
     {
         let figures = self.multi_figures();
         match self.carriers.carrier(number) {
-            Some(multi) => is_due(self.settings, figures, multi),
+            Some(multi) => is_due(self.settings, self.count, figures, multi),
             None => false,
         }
     }
@@ -524,10 +554,14 @@ impl Instance {
         match decide(self.settings, block.size, need, Where::Multi { behind }) {
             Decision::Stay => Some(self.carriers.rename(found, offset, name)),
             Decision::ShrinkHere => {
+                self.count = self.count.saturating_sub(RESIZED_COUNT);
                 self.carriers.shrink(found, offset, need, name);
                 Some(need)
             }
-            Decision::GrowHere => Some(self.carriers.grow(found, offset, need, name)),
+            Decision::GrowHere => {
+                self.count = self.count.saturating_sub(RESIZED_COUNT);
+                Some(self.carriers.grow(found, offset, need, name))
+            }
             Decision::ShrinkCarrier { .. } => unreachable!(),
             Decision::Move => None,
         }

@@ -1,11 +1,12 @@
 //! The carriers that an instance owns, and the pages of its region that they have.
-ghost use Rattle.std.specs.Prelude.{◌≡◌, ◌+◌, ◌^◌, ◌<◌, ◌≤◌, [], IfOk, IfSome, IsSome, Some, false};
+ghost use Rattle.std.specs.Prelude.{◌≡◌, ◌+◌, ◌^◌, ◌<◌, ◌≤◌, [], Bool, IfOk, IfSome, IsSome, Some};
+ghost use Rattle.std.specs.Prelude.{false};
 ghost use Rattle.std.specs.Prelude.{length};
 ghost use Rattle.ea_model.specs.declared.units.TheConstants.{NUMBERS};
 ghost use Rattle.ea_model.specs.Instance.{is_used, own_at, planned_own, segments, unused_from};
 ghost use Rattle.ea_model.specs.Instance.{with_own, without_own};
 ghost use Rattle.ea_model.specs.Keyed.{changed_at};
-ghost use Rattle.ea_model.specs.Region.{lowest_run, runs};
+ghost use Rattle.ea_model.specs.Region.{place_in, runs};
 
 use ea_model::keyed::{enter_within, index_of, item_of, take_out};
 use ea_model::{CarrierPlan, NUMBERS, OutOfMemory, OwnCarrier};
@@ -84,12 +85,12 @@ impl OwnCarriers {
         item_of(number, &self.list).is_some()
     }
 
-    /// Where the lowest free run with that many pages begins.
-    pub fn free_run(&self, pages: u32) -> Option<u32>
-        ensures { result ≡ lowest_run pages
+    /// Where a segment of that many pages is placed, which falls or not.
+    pub fn free_run(&self, falling: bool, pages: u32) -> Option<u32>
+        ensures { result ≡ place_in falling pages
             (runs self.now.first self.now.end (segments self.now.carriers)) }
     {
-        self.region.find(pages)
+        self.region.find(falling, pages)
     }
 
     /// Adds the carrier of a plan, where `free_run` finds its pages.
@@ -97,8 +98,8 @@ impl OwnCarriers {
         requires some { 1 ≤ plan.pages }
         requires room { length self.old.carriers < NUMBERS }
         requires number { is_used plan.number self.old.carriers ≡ false }
-        requires found { lowest_run plan.pages
-            (runs self.old.first self.old.end (segments self.old.carriers)) ≡ Some plan.base }
+        requires found { (falling : Bool) × (place_in falling plan.pages
+            (runs self.old.first self.old.end (segments self.old.carriers)) ≡ Some plan.base) }
         ensures { self.new ≡ record self.old {
           carriers = with_own (planned_own plan) self.old.carriers;
         } }

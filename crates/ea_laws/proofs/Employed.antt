@@ -10,6 +10,7 @@ use Rattle.ea_model.specs.Instance.{Instance, changed, changing, content_of}
 use Rattle.ea_model.specs.Instance.{created_content, created_single, creating, creating_single}
 use Rattle.ea_model.specs.Instance.{employed, placing_at, shortened, with_content, without_content}
 use Rattle.ea_model.specs.Keyed.{merged}
+use Rattle.ea_model.specs.Settings.{raised}
 use Rattle.ea_model.proofs.Merged.{merged-apart, merged-changed, merged-left, merged-right}
 use Rattle.ea_model.proofs.Merged.{merged-without}
 use Rattle.ea_model.proofs.Rising.{changed_none}
@@ -21,15 +22,17 @@ pub employed-changed : (f : Content → Content) → KeepsPlace f → (n : ℕ) 
     → employed (changing i f n) ≡ changed f n (employed i)
 employed-changed f keeps n i = merged-changed number_of f n keeps.number i.contents i.singles
 
--- a placement changes a multiblock carrier alone
+-- a placement changes a multiblock carrier alone, and the count
 pub placing-is : (i : Instance) (spot : Spot) (need name : ℕ) (c : Content)
     → IsRising (employed i) → content_of i.contents spot.carrier ≡ Some c
     → placing_at i spot need name
-    ≡ changing i (λ x. placed x spot.offset need name) spot.carrier
+    ≡ record (changing i (λ x. placed x spot.offset need name) spot.carrier)
+    { count = raised i.settings i.count }
 placing-is i spot need name c rising there =
     ap (λ ss. record i {
       contents = changed (λ x. placed x spot.offset need name) spot.carrier i.contents;
       singles = ss;
+      count = raised i.settings i.count;
     })
     (sym (changed_none number_of (λ x. placed x spot.offset need name) spot.carrier i.singles
     (merged-apart number_of spot.carrier c i.contents i.singles rising there)))

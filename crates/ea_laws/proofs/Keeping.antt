@@ -1,7 +1,7 @@
 -- What an instance keeps of its carriers through each change.
 use Rattle.std.proofs.Common.{◌≡◌, ℕ, ◌+◌, ◌*◌, ◌/◌, ◌%◌, ◌<◌, ◌≤◌, false, List, length, All, sym}
 use Rattle.std.proofs.Common.{subst, refl, arith}
-use Rattle.std.specs.Prelude.{Option, Some, None, Ok, IsSome, ◌==◌}
+use Rattle.std.specs.Prelude.{Option, Some, None, Ok, IsSome, max, ◌==◌}
 use Rattle.std.proofs.lemmas.Bool.{cond_both}
 use Rattle.std.proofs.lemmas.List.Elements.{All-filter, All-map, All-weaker}
 use Rattle.std.proofs.lemmas.List.Kept.{AllPairs-filter}
@@ -13,20 +13,21 @@ use Rattle.ea_model.specs.declared.carriers.CarrierPlan.{CarrierPlan}
 use Rattle.ea_model.specs.declared.carriers.Kind.TheVariants.{Multi}
 use Rattle.ea_model.specs.Content.{Content}
 use Rattle.ea_model.specs.Keyed.{IsBelow}
-use Rattle.ea_model.specs.Region.{AreFree, Laid, lowest_run, runs, with_segment}
+use Rattle.ea_model.specs.Region.{AreFree, Laid, with_segment}
 use Rattle.ea_model.specs.Instance.{Instance, segments, segment_of, first_number, own_at, own_of}
 use Rattle.ea_model.specs.Instance.{planned_own, with_own, without_own, unused_from, is_used}
 use Rattle.ea_model.specs.Instance.{free_run, is_alone, next_pages, wanted_pages}
 use Rattle.ea_model.specs.Instance.{planned, least_plan, sized_plan, numbered_plan, plan}
-use Rattle.ea_model.specs.Instance.{created_content, creating, chosen_spot}
-use Rattle.ea_model.specs.Units.{least_pages}
+use Rattle.ea_model.specs.Instance.{created_content, creating, chosen_spot, growth, multis}
+use Rattle.ea_model.specs.Units.{least_pages, pages_for}
 use Rattle.ea_model.proofs.Options.{some_holds}
 use Rattle.ea_model.proofs.Rising.{All-entered, change, key_stays, length-entered, rising-changed}
 use Rattle.ea_model.proofs.Rising.{rising-entered}
 use Rattle.ea_laws.specs.Kept.{own_number, HasNumberIn, HasPages, IsRisingOwn, IsKept, IsLaidOut}
-use Rattle.ea_laws.proofs.FreeRuns.{Fits, lowest-Fits}
+use Rattle.ea_laws.proofs.FreeRuns.{Fits, place-Fits}
 use Rattle.ea_laws.proofs.Segments.{Laid-cut, Laid-entered}
 use Rattle.ea_laws.proofs.Owned.{rising-length, unused_from-free, unused-All}
+use Rattle.ea_laws.proofs.Powers.{rounded-from}
 use Rattle.ea_laws.proofs.Room.{chosen-created}
 use Rattle.ea_laws.proofs.CarrierSegments.{segments-shortened, segments-with_own, segments-without}
 use Rattle.ea_laws.proofs.CarrierSegments.{with_pages}
@@ -90,7 +91,12 @@ pub record IsPlanned (i : Instance) (need : ℕ) (p : CarrierPlan) : Type 0 wher
 -- the wanted pages are enough
 pub wanted-enough : (i : Instance) (need : ℕ) → least_pages need ≤ wanted_pages i need
 wanted-enough i need = cond_both (is_alone i need) (least_pages need) (next_pages i need)
-    (λ n. least_pages need ≤ n) (λ _. omega arith) (λ _. omega arith)
+    (λ n. least_pages need ≤ n) (λ _. omega arith) (λ _. omega (arith, enough)) where
+      wanted : ℕ
+      wanted = max (least_pages need) (pages_for (growth i.settings (multis i.contents)))
+
+      enough : wanted ≤ next_pages i need
+      enough = rounded-from i.settings wanted
 
 at_least : (i : Instance) (need number : ℕ) (p : CarrierPlan) (o : Option ℕ)
     → unused_from NUMBERS (first_number i.number) i.own ≡ Some number
@@ -162,9 +168,9 @@ module _ (i : Instance) (need : ℕ) (p : CarrierPlan)
 
   run_fits : Fits i.first i.end p.base p.pages (segments i.own)
   run_fits =
-      some_holds (lowest_run p.pages (runs i.first i.end (segments i.own))) p.base
+      some_holds (free_run i p.pages) p.base
       (λ base. Fits i.first i.end base p.pages (segments i.own)) planned_here.run
-      (lowest-Fits i.first i.end p.pages (segments i.own) k.laid)
+      (place-Fits i.settings.rules.falling i.first i.end p.pages (segments i.own) k.laid)
 
   -- its pages are free
   pub planned-free : AreFree p.base p.pages (segments i.own)

@@ -16,6 +16,7 @@ pub mod Orderly
 pub mod Orders
 pub mod Owned
 pub mod Planning
+pub mod Powers
 pub mod Extents
 pub mod Reallocating
 pub mod Refusals

@@ -11,6 +11,7 @@ use Rattle.ea_model.specs.declared.carriers.OwnCarrier.{OwnCarrier}
 use Rattle.ea_model.specs.declared.carriers.Kind.TheVariants.{Multi}
 use Rattle.ea_model.specs.declared.carriers.Spot.{Spot}
 use Rattle.ea_model.specs.declared.settings.Settings.{Settings}
+use Rattle.ea_model.specs.declared.units.TheConstants.{RELEASED_COUNT, RESIZED_COUNT}
 use Rattle.ea_model.specs.declared.reallocation.Decision.{Decision}
 use Rattle.ea_model.specs.declared.reallocation.Decision.TheVariants.{Stay, ShrinkHere, GrowHere}
 use Rattle.ea_model.specs.declared.reallocation.Decision.TheVariants.{ShrinkCarrier, Move}
@@ -20,12 +21,14 @@ use Rattle.ea_model.specs.Content.{Content, block_at, gap_behind, placed, releas
 use Rattle.ea_model.specs.Content.{size_of}
 use Rattle.ea_model.specs.Decision.{decision, size_after}
 use Rattle.ea_model.specs.Employment.{dismissing, disowning, employing}
-use Rattle.ea_model.specs.Instance.{Instance, changing, content_of, created_content, created_single}
+use Rattle.ea_model.specs.Instance.{Instance, changing, content_of, count_less, created_content}
+use Rattle.ea_model.specs.Instance.{created_single, resized_more}
 use Rattle.ea_model.specs.Instance.{creating, creating_single, decision_at, employed, own_at}
 use Rattle.ea_model.specs.Instance.{own_of, placing_at, plan, releasing_at, resized_by, resized_in}
 use Rattle.ea_model.specs.Instance.{resized_to, resizing_at, shortened, size_at, where_at, where_in}
 use Rattle.ea_model.specs.Instance.{with_content, without_own}
 use Rattle.ea_model.specs.Keyed.{IsBelow}
+use Rattle.ea_model.specs.Settings.{raised}
 use Rattle.ea_model.proofs.Merged.{merged-apart, merged-each, merged-first, merged-left}
 use Rattle.ea_model.proofs.Merged.{merged-right, merged-second}
 use Rattle.ea_model.proofs.Options.{same-some}
@@ -77,6 +80,18 @@ module _ (f : Content → Content) (keeps : KeepsPlace f) (n : ℕ) (i : Instanc
       alone = changed-All IsLaidOutAlone f n i.singles order.rising_singles order.alone one;
     }
 
+-- an instance of another count is in order, too
+pub counted-IsOrderly : (count : ℕ) (i : Instance) → IsOrderly i
+    → IsOrderly (record i { count = count })
+counted-IsOrderly count i order = record {
+  kept = order.kept;
+  rising = order.rising;
+  rising_singles = order.rising_singles;
+  once = order.once;
+  laid = order.laid;
+  alone = order.alone;
+}
+
 -- a block is placed where there is a gap
 module _ (i : Instance) (spot : Spot) (need name : ℕ) (order : IsOrderly i)
     (gap : HasGap need spot.carrier spot.offset i.contents) where
@@ -99,21 +114,25 @@ pub placing-IsOrderly : (i : Instance) (spot : Spot) (need name : ℕ) → IsOrd
     → IsOrderly (placing_at i spot need name)
 placing-IsOrderly i spot need name order gap least even =
     subst IsOrderly (sym (placing-is i spot need name gap.0 order.once gap.1))
+    (counted-IsOrderly (raised i.settings i.count)
+    (changing i (λ c. placed c spot.offset need name) spot.carrier)
     (changing-IsOrderly (λ c. placed c spot.offset need name)
     (placed-keeps spot.offset need name) spot.carrier i order
     (placing-laid i spot need name order gap least even)
-    (placing-alone i spot need name order gap))
+    (placing-alone i spot need name order gap)))
 
 -- the block at a spot is released
 pub releasing-IsOrderly : (i : Instance) (spot : Spot) → IsOrderly i
     → IsOrderly (releasing_at i spot)
 releasing-IsOrderly i spot order =
-    changing-IsOrderly (λ c. released c spot.offset) (released-keeps spot.offset) spot.carrier i
+    counted-IsOrderly (count_less RELEASED_COUNT i spot.carrier)
+    (changing i (λ c. released c spot.offset) spot.carrier)
+    (changing-IsOrderly (λ c. released c spot.offset) (released-keeps spot.offset) spot.carrier i
     order
     (λ c there. released-IsLaidOut c spot.offset
     (item_at-All number_of IsLaidOut spot.carrier c i.contents order.laid there))
     (λ c there. released-IsLaidOutAlone c spot.offset
-    (item_at-All number_of IsLaidOutAlone spot.carrier c i.singles order.alone there))
+    (item_at-All number_of IsLaidOutAlone spot.carrier c i.singles order.alone there)))
 
 -- a carrier that isn't employed comes
 module _ (i : Instance) (order : IsOrderly i) (x : Content)
@@ -304,12 +323,17 @@ module _ (i : Instance) (spot : Spot) (need name : ℕ) (c : Content) (b : Block
         (λ d is. subst (λ x. IsLaidOutAlone (with_new size x))
         (same-some (content_of i.singles at) c d here is) laid)
 
+    counted : (size : ℕ) → IsOrderly (resized_in i spot size name)
+        → IsOrderly (resized_more i spot size name)
+    counted size order = counted-IsOrderly (count_less RESIZED_COUNT i at)
+        (resized_in i spot size name) order
+
     by_many : (d : Decision) → decision_at i spot need ≡ d → content_of i.contents at ≡ Some c
         → IsLaidOut (content_after d spot.offset (resized_to i spot need) name c)
         → IsOrderly (resized_by d i spot (resized_to i spot need) name)
     by_many Stay e here laid = many_resized _ here laid
-    by_many ShrinkHere e here laid = many_resized _ here laid
-    by_many GrowHere e here laid = many_resized _ here laid
+    by_many ShrinkHere e here laid = counted _ (many_resized _ here laid)
+    by_many GrowHere e here laid = counted _ (many_resized _ here laid)
     by_many (ShrinkCarrier pages) e here laid =
         absurd (let never : Some c ≡ None = sym here ∙ shortened-alone i spot need pages e in cc)
     by_many Move e here laid = order
@@ -320,8 +344,8 @@ module _ (i : Instance) (spot : Spot) (need name : ℕ) (c : Content) (b : Block
         → IsLaidOutAlone (content_after d spot.offset (resized_to i spot need) name c)
         → IsOrderly (resized_by d i spot (resized_to i spot need) name)
     by_alone Stay e f others here laid = alone_resized _ others here laid
-    by_alone ShrinkHere e f others here laid = alone_resized _ others here laid
-    by_alone GrowHere e f others here laid = alone_resized _ others here laid
+    by_alone ShrinkHere e f others here laid = counted _ (alone_resized _ others here laid)
+    by_alone GrowHere e f others here laid = counted _ (alone_resized _ others here laid)
     by_alone (ShrinkCarrier pages) e f others here laid =
         let before = item_at-All number_of IsLaidOutAlone at c i.singles order.alone here in
         let size : ℕ = resized_to i spot need in

@@ -2,7 +2,8 @@
 use Rattle.std.proofs.Common.{◌≡◌, ◌⊎◌, ℕ, zero, suc, ◌+◌, ◌-◌, ◌*◌, ◌/◌, ◌<◌, ◌≤◌}
 use Rattle.std.proofs.Common.{true, false, List, [], ◌∷◌, refl, sym, ap, ◌∙◌, subst, inl, inr}
 use Rattle.std.proofs.Common.{arith}
-use Rattle.std.specs.Prelude.{IsNone, Option, Some, None, Ok, nat_le}
+use Rattle.std.specs.Int.{IsPowerOfTwo}
+use Rattle.std.specs.Prelude.{IsNone, Option, Some, None, Ok, max, nat_le}
 use Rattle.std.proofs.Math.Nat.{lt-div-mul-add, mul_comm, mul-div-le, mul-div_cancel_left}
 use Rattle.std.proofs.lemmas.Bool.{cases_Bool, cases_eq, cases_lt, cond-false, cond-true}
 use Rattle.std.proofs.lemmas.Int.{clamps}
@@ -11,17 +12,20 @@ use Rattle.ea_model.specs.declared.carriers.CarrierPlan.{CarrierPlan}
 use Rattle.ea_model.specs.declared.carriers.OwnCarrier.{OwnCarrier}
 use Rattle.ea_model.specs.declared.carriers.Segment.{Segment}
 use Rattle.ea_model.specs.declared.settings.Settings.{Settings}
-use Rattle.ea_model.specs.declared.units.TheConstants.{NUMBERS}
+use Rattle.ea_model.specs.declared.units.TheConstants.{MIN_POWER_PAGES, NUMBERS}
 use Rattle.ea_model.specs.Instance.{Instance, first_number, free_run, growth, is_alone, is_used}
 use Rattle.ea_model.specs.Instance.{least_plan, multis, next_pages, numbered_plan, planned}
 use Rattle.ea_model.specs.Instance.{segments, sized_plan, unused_from, wanted_pages}
-use Rattle.ea_model.specs.Region.{lowest_run, runs}
-use Rattle.ea_model.specs.Units.{least_pages}
-use Rattle.ea_laws.specs.PlanLaws.{BeginsFirst, IsGrown, IsWanted}
-use Rattle.ea_laws.specs.PlanLaws.{PlansNumber, PlansSize, PlansSpace, largest_size}
-use Rattle.ea_laws.proofs.FreeRuns.{lowest-none, lowest_past}
+use Rattle.ea_model.specs.Region.{highest_end, lowest_run, place_in, runs}
+use Rattle.ea_model.specs.Units.{least_pages, pages_for}
+use Rattle.ea_laws.specs.PlanLaws.{BeginsFirst, EndsLast, IsGrown, IsRounded, IsWanted}
+use Rattle.ea_laws.specs.PlanLaws.{PlansFalling, PlansNumber, PlansPowers, PlansSize, PlansSpace}
+use Rattle.ea_laws.specs.PlanLaws.{largest_size}
+use Rattle.ea_laws.proofs.FreeRuns.{highest-found, highest-nil, highest-none, lowest_past}
+use Rattle.ea_laws.proofs.FreeRuns.{place-none}
 use Rattle.ea_laws.proofs.Keeping.{plan-IsPlanned}
 use Rattle.ea_laws.proofs.Owned.{unused_from-free}
+use Rattle.ea_laws.proofs.Powers.{is-rounded, power-of}
 use Rattle.ea_laws.proofs.Unused.{unused_from-free_here, unused_from-used, unused_from-zero}
 
 -- the numbers below the one that is found are in use
@@ -115,7 +119,10 @@ is-wanted i need some = elim (cases_lt i.settings.sbct need) [
         (
           growth i.settings (multis i.contents),
           is-grown i.settings (multis i.contents) some,
-          cond-false (is_alone i need) (least_pages need) (next_pages i need) shared,
+          subst (IsRounded i.settings (max (least_pages need)
+              (pages_for (growth i.settings (multis i.contents)))))
+              (sym (cond-false (is_alone i need) (least_pages need) (next_pages i need) shared))
+              (is-rounded i.settings _),
         ),
       )
 ]
@@ -154,7 +161,8 @@ plans-size i need p some e = record {
     | inl q ↦ inl q
     | inr q ↦ inr (
       q.0,
-      (lowest-none (wanted_pages i need) (runs i.first i.end (segments i.own))).0
+      (place-none i.settings.rules.falling (wanted_pages i need)
+          (runs i.first i.end (segments i.own))).0
           (subst IsNone (sym q.1) refl),
     )
   ];
@@ -198,5 +206,54 @@ begins-first pages base (r ∷ rs) e = elim (cases_lt r.pages pages) [
 ]
 
 pub plans-space : PlansSpace
-plans-space i need p e =
-    begins-first p.pages p.base (runs i.first i.end (segments i.own)) (plan-IsPlanned i need p e).run
+plans-space i need p not e =
+    begins-first p.pages p.base (runs i.first i.end (segments i.own))
+    (ap (λ falling. place_in falling p.pages (runs i.first i.end (segments i.own))) (sym not)
+    ∙ (plan-IsPlanned i need p e).run)
+
+-- the last run that is long enough
+ends-last : (pages base : ℕ) (rs : List Segment) → highest_end pages rs ≡ Some base
+    → EndsLast rs base pages
+ends-last pages base [] e =
+    let never : None ≡ Some base = sym (highest-nil pages) ∙ e in absurd cc
+ends-last pages base (r ∷ rs) e = elim (highest-found pages r rs base e) [
+  | inl later ↦
+      let b = ends-last pages base rs later in record {
+        before = r ∷ b.before;
+        run = b.run;
+        after = b.after;
+        split = ap (λ qs. r ∷ qs) b.split;
+        long = b.long;
+        short = b.short;
+        is = b.is;
+      }
+  | inr here ↦ record {
+    before = [];
+    run = r;
+    after = rs;
+    split = refl;
+    long = here.1;
+    short = (highest-none pages rs).0 (subst IsNone (sym here.0) refl);
+    is = here.2;
+  }
+]
+
+pub plans-falling : PlansFalling
+plans-falling i need p falls e =
+    ends-last p.pages p.base (runs i.first i.end (segments i.own))
+    (ap (λ falling. place_in falling p.pages (runs i.first i.end (segments i.own))) (sym falls)
+    ∙ (plan-IsPlanned i need p e).run)
+
+-- the pages of a multiblock carrier by the rule `powers`
+pub plans-powers : PlansPowers
+plans-powers i need p powers multi e =
+    elim (numbered-pages i need p (unused_from NUMBERS (first_number i.number) i.own) e) [
+      | inl q ↦
+          let is : p.pages ≡ next_pages i need = q
+          ∙ cond-false (is_alone i need) (least_pages need) (next_pages i need)
+          (sym (plan-IsPlanned i need p e).single ∙ multi) in
+          inl (subst (λ n. IsPowerOfTwo n × (MIN_POWER_PAGES ≤ n)) (sym is)
+          (power-of i.settings (max (least_pages need)
+          (pages_for (growth i.settings (multis i.contents)))) powers))
+      | inr q ↦ inr q.0
+    ]

@@ -36,7 +36,7 @@ use Rattle.ea_laws.proofs.Orderly.{shortened-IsOrderly}
 use Rattle.ea_laws.proofs.Resizing.{content_after, InMulti, InSingle, in_multi, in_single}
 use Rattle.ea_laws.proofs.Resizing.{one_resized, resized-IsLaidOut, shortened-alone, single-resized}
 use Rattle.ea_laws.proofs.Standing.{all-own, all-someones, changing-Stands, employed-multi}
-use Rattle.ea_laws.proofs.Standing.{employed-rising, single-own}
+use Rattle.ea_laws.proofs.Standing.{employed-rising, resized_more-Stands, single-own}
 
 -- a singleblock carrier that still holds its block has fewer pages
 module _ (i : Instance) (number pages : ℕ) (c : Content) (st : Stands i)
@@ -175,8 +175,8 @@ module _ (i : Instance) (spot : Spot) (need : ℕ) (c : Content) (b : BlockAt) (
         → Stands (resized_by d i spot
         (size_after d b.size need (Multi (gap_behind c spot.offset))) name)
     multi_by Stay h laid = multi_resized _ laid
-    multi_by ShrinkHere h laid = multi_resized _ laid
-    multi_by GrowHere h laid = multi_resized _ laid
+    multi_by ShrinkHere h laid = resized_more-Stands i spot _ name (multi_resized _ laid)
+    multi_by GrowHere h laid = resized_more-Stands i spot _ name (multi_resized _ laid)
     multi_by (ShrinkCarrier pages) h laid = absurd h
     multi_by Move h laid = st
 
@@ -283,8 +283,10 @@ module _ (i : Instance) (spot : Spot) (need : ℕ) (c : Content) (b : BlockAt) (
     single_by Stay e =
         let h = single_decides Stay e in
         subst (λ n. Stands (resized_in i spot n name)) h.0 (single_resized need least even h.1)
-    single_by ShrinkHere e = single_resized need least even (single_decides ShrinkHere e).1
-    single_by GrowHere e = single_resized need least even (single_decides GrowHere e).1
+    single_by ShrinkHere e = resized_more-Stands i spot need name
+        (single_resized need least even (single_decides ShrinkHere e).1)
+    single_by GrowHere e = resized_more-Stands i spot need name
+        (single_resized need least even (single_decides GrowHere e).1)
     single_by (ShrinkCarrier pages) e = single_shortened pages e
     single_by Move e = st
 

@@ -23,7 +23,7 @@ use Rattle.ea_model.specs.Strategies.{takes_first, spot_of}
 use Rattle.ea_model.specs.Units.{least_pages}
 use Rattle.ea_model.proofs.First.{first-none, large-none, none-large}
 use Rattle.ea_model.proofs.Options.{mapped, unmapped}
-use Rattle.ea_laws.proofs.FreeRuns.{lowest-none}
+use Rattle.ea_laws.proofs.FreeRuns.{place-none}
 use Rattle.ea_laws.specs.Spots.{AllUsed, FindsNone}
 use Rattle.ea_laws.proofs.Inspected.{all_inspected}
 use Rattle.ea_laws.proofs.Keeping.{wanted-enough}
@@ -195,15 +195,16 @@ pub plan-space : (i : Instance) (need : ℕ)
     → (plan i need ≡ Err Space) ↔ ((AllUsed i → ⊥)
     × All (λ r. r.pages < least_pages need) (runs i.first i.end (segments i.own)))
 plan-space i need =
-    let rs : List Segment = runs i.first i.end (segments i.own) in (
+    let rs : List Segment = runs i.first i.end (segments i.own) in
+    let falls : Bool = i.settings.rules.falling in (
       λ e. let both = spaced i need (unused_from NUMBERS (first_number i.number) i.own) e in (
         λ all. both.0 (none_unused NUMBERS (first_number i.number) i.own all),
-        (lowest-none (least_pages need) rs).0 both.1,
+        (place-none falls (least_pages need) rs).0 both.1,
       ),
       λ h. unplanned i need (unused_from NUMBERS (first_number i.number) i.own)
           (λ none. h.0 (all_used NUMBERS (first_number i.number) i.own none))
           (is_none (free_run i (wanted_pages i need))
-          ((lowest-none (wanted_pages i need) rs).1
+          ((place-none falls (wanted_pages i need) rs).1
           (All-more (least_pages need) (wanted_pages i need) rs (wanted-enough i need) h.1)))
-          (is_none (free_run i (least_pages need)) ((lowest-none (least_pages need) rs).1 h.1)),
+          (is_none (free_run i (least_pages need)) ((place-none falls (least_pages need) rs).1 h.1)),
     )

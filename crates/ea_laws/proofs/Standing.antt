@@ -11,6 +11,7 @@ use Rattle.std.proofs.lemmas.List.Elements.{All-map, All-tail, All-weaker}
 use Rattle.std.proofs.lemmas.List.Kept.{AllPairs-cons, AllPairs-filter}
 use Rattle.ea_model.specs.declared.settings.Settings.{Settings}
 use Rattle.ea_model.specs.declared.units.TheConstants.{MAX_PAGES, MAX_SCHEDULERS, NUMBERS}
+use Rattle.ea_model.specs.declared.units.TheConstants.{RELEASED_COUNT, RESIZED_COUNT}
 use Rattle.ea_model.specs.declared.settings.Strategy.{Strategy}
 use Rattle.ea_model.specs.declared.carriers.Candidate.{Candidate}
 use Rattle.ea_model.specs.declared.carriers.CarrierPlan.{CarrierPlan}
@@ -22,17 +23,17 @@ use Rattle.ea_model.specs.Keyed.{IsBelow}
 use Rattle.ea_model.specs.declared.carriers.OwnCarrier.{OwnCarrier}
 use Rattle.ea_model.specs.Employment.{dismissing, disowning, employing}
 use Rattle.ea_model.specs.Region.{SegmentApart}
-use Rattle.ea_model.specs.Settings.{IsValid}
+use Rattle.ea_model.specs.Settings.{IsValid, most_count, raised}
 use Rattle.ea_model.specs.Units.{pages_for}
 use Rattle.ea_model.specs.Strategies.{candidates, choice_among, choice_for, choice_empty}
 use Rattle.ea_model.specs.Strategies.{large_enough, inspected_by, lower, may_miss, or_else, spot_of}
 use Rattle.ea_model.specs.Strategies.{takes_first}
-use Rattle.ea_model.specs.Instance.{Instance, changing, chosen_spot, content_of}
+use Rattle.ea_model.specs.Instance.{Instance, changing, chosen_spot, content_of, count_less}
 use Rattle.ea_model.specs.Instance.{created_content, created_single, creating, creating_single}
 use Rattle.ea_model.specs.Instance.{employed, first_number, has_content, is_used, main_content}
 use Rattle.ea_model.specs.Instance.{new_instance, own_at, own_of, placing_at, plan, planned_own}
-use Rattle.ea_model.specs.Instance.{releasing_at, segment_of, with_content, with_own}
-use Rattle.ea_model.specs.Instance.{without_own}
+use Rattle.ea_model.specs.Instance.{releasing_at, resized_in, resized_more, segment_of}
+use Rattle.ea_model.specs.Instance.{with_content, with_own, without_own}
 use Rattle.ea_model.proofs.First.{first-All}
 use Rattle.ea_model.proofs.Options.{if_some, some_holds, some_map}
 use Rattle.ea_model.proofs.Pairs.{pairs_head, pairs_map, pairs_nil, pairs_tail}
@@ -41,7 +42,7 @@ use Rattle.ea_model.proofs.Merged.{merged-each, merged-first, merged-left, merge
 use Rattle.ea_model.proofs.Merged.{merged-right}
 use Rattle.ea_model.proofs.Rising.{All-entered, item_at-All, item_at-each, item_at-gone}
 use Rattle.ea_model.proofs.Rising.{item_at-key, item_at-new, item_at-old, item_at-stays, item_here}
-use Rattle.ea_model.proofs.Rising.{none-other, rising-entered}
+use Rattle.ea_model.proofs.Rising.{none-other}
 use Rattle.ea_laws.specs.Spots.{HasGap}
 use Rattle.ea_laws.specs.InOrder.{IsInOrder}
 use Rattle.ea_laws.specs.Kept.{number_of, own_number, ContentsApart, HasNumberIn}
@@ -55,7 +56,8 @@ use Rattle.ea_laws.proofs.Keeping.{planned-numbered, planned-within, whole_pages
 use Rattle.ea_laws.proofs.Employed.{employed-changed, employed-dismissed, placing-is}
 use Rattle.ea_laws.proofs.Laid.{created_single-IsLaidOutAlone, released-IsLaidOut}
 use Rattle.ea_laws.proofs.Laid.{released-IsLaidOutAlone}
-use Rattle.ea_laws.proofs.Orderly.{changing-IsOrderly, dismissing-IsOrderly, disowning-IsOrderly}
+use Rattle.ea_laws.proofs.Orderly.{changing-IsOrderly, counted-IsOrderly, dismissing-IsOrderly}
+use Rattle.ea_laws.proofs.Orderly.{disowning-IsOrderly}
 use Rattle.ea_laws.proofs.Orderly.{employing-IsOrderly, employing_single-IsOrderly}
 use Rattle.ea_laws.proofs.Orderly.{owning-IsOrderly, placing-alone, placing-laid}
 use Rattle.ea_laws.proofs.Owned.{apart_from, rising-length, unused-All}
@@ -240,23 +242,43 @@ changing-Stands f keeps n i st sound alone =
           (λ c one. subst (IsOwn i.own) (altered-own f keeps n c) one) i.contents (st.home off));
     }
 
+-- an instance of another count stands, too
+pub counted-Stands : (count : ℕ) (i : Instance) → Stands i → Stands (record i { count = count })
+counted-Stands count i st = record {
+  orderly = counted-IsOrderly count i st.orderly;
+  apart = st.apart;
+  someones = st.someones;
+  owned = st.owned;
+  home = st.home;
+}
+
 -- a block is placed in a gap that is large enough
 pub placing-Stands : (i : Instance) (spot : Spot) (need name : ℕ) → Stands i
     → HasGap need spot.carrier spot.offset i.contents → 6 ≤ need → need % 2 ≡ 0
     → Stands (placing_at i spot need name)
 placing-Stands i spot need name st gap least even =
     subst Stands (sym (placing-is i spot need name gap.0 st.orderly.once gap.1))
+    (counted-Stands (raised i.settings i.count)
+    (changing i (λ c. placed c spot.offset need name) spot.carrier)
     (changing-Stands (λ c. placed c spot.offset need name) (placed-keeps spot.offset need name)
     spot.carrier i st (placing-laid i spot need name st.orderly gap least even)
-    (placing-alone i spot need name st.orderly gap))
+    (placing-alone i spot need name st.orderly gap)))
 
 pub releasing-Stands : (i : Instance) (spot : Spot) → Stands i → Stands (releasing_at i spot)
 releasing-Stands i spot st =
-    changing-Stands (λ c. released c spot.offset) (released-keeps spot.offset) spot.carrier i st
+    counted-Stands (count_less RELEASED_COUNT i spot.carrier)
+    (changing i (λ c. released c spot.offset) spot.carrier)
+    (changing-Stands (λ c. released c spot.offset) (released-keeps spot.offset) spot.carrier i st
     (λ c there. released-IsLaidOut c spot.offset
     (item_at-All number_of IsLaidOut spot.carrier c i.contents st.orderly.laid there))
     (λ c there. released-IsLaidOutAlone c spot.offset
-    (item_at-All number_of IsLaidOutAlone spot.carrier c i.singles st.orderly.alone there))
+    (item_at-All number_of IsLaidOutAlone spot.carrier c i.singles st.orderly.alone there)))
+
+-- a block shrank or grew where it is
+pub resized_more-Stands : (i : Instance) (spot : Spot) (size name : ℕ)
+    → Stands (resized_in i spot size name) → Stands (resized_more i spot size name)
+resized_more-Stands i spot size name st =
+    counted-Stands (count_less RESIZED_COUNT i spot.carrier) (resized_in i spot size name) st
 
 -- other carriers are the instance's or another's as they were
 abbrev pub SameOwn : (own more : List OwnCarrier) → OwnCarrier → Type 0
@@ -551,6 +573,7 @@ new_without : (s : Settings) (number first pages : ℕ) → IsValid s
       contents = [];
       singles = [];
       created = 0;
+      count = most_count s;
     })
 new_without s number first pages valid own within = record {
   orderly = record {
@@ -587,6 +610,7 @@ new_with : (s : Settings) (number first pages : ℕ) → IsValid s
       contents = main_content s number first ∷ [];
       singles = [];
       created = 1;
+      count = most_count s;
     })
 new_with s number first pages valid own within main some =
     let m = main_content s number first in
@@ -601,6 +625,7 @@ new_with s number first pages valid own within main some =
       contents = m ∷ [];
       singles = [];
       created = 1;
+      count = most_count s;
     } in
     let one : 1 ≤ n = omega arith in
     let same = pages_of_units n in
@@ -661,6 +686,7 @@ new-Stands s number first pages valid own within main =
       contents = cs;
       singles = [];
       created = length cs;
+      count = most_count s;
     }) in
     elim (cases_lt 0 s.mmbcs) [
       | inl some ↦ subst as_list

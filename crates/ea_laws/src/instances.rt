@@ -3,7 +3,8 @@ ghost use Rattle.ea_laws.specs.InstanceLaws.{StandsAtBeginning, Creates, Creates
 ghost use Rattle.ea_laws.specs.InstanceLaws.{Dismisses, Disowns, EmploysWithinRegion};
 ghost use Rattle.ea_laws.specs.InstanceLaws.{Places, RefusesNumbers, RefusesSpace, Releases};
 ghost use Rattle.ea_laws.specs.InstanceLaws.{Resizes, StandsInOrder};
-ghost use Rattle.ea_laws.specs.PlanLaws.{PlansNumber, PlansSize, PlansSpace};
+ghost use Rattle.ea_laws.specs.PlanLaws.{PlansFalling, PlansNumber, PlansPowers, PlansSize};
+ghost use Rattle.ea_laws.specs.PlanLaws.{PlansSpace};
 
 /// An instance stands at its beginning, and after each placement, release, creation and
 /// reallocation in place, and after a carrier was dismissed or disowned. While it stands it is in
@@ -25,5 +26,7 @@ pub fn instances()
     ensures space { RefusesSpace }
     ensures plans_number { PlansNumber }
     ensures plans_size { PlansSize }
+    ensures plans_powers { PlansPowers }
     ensures plans_space { PlansSpace }
+    ensures plans_falling { PlansFalling }
 {}

@@ -67,7 +67,7 @@ module _ (setup : Setup) (me : ℕ) (a : Actor) (s : Shared) where
   Guard (BusyTry number seen) = (largest : ℕ) × (seen ≡ word.Pooled me largest)
   Guard (Settle x) = s.places x.number ≡ Busy me
   Guard (Abandon x) = (s.places x.number ≡ Employed me)
-      × (is_due setup.settings (employed_multis a) x ≡ true)
+      × (is_due setup.settings a.instance.count (employed_multis a) x ≡ true)
   Guard (FetchTry number seen) = SawFitting seen
   Guard (Create number) = (s.places number ≡ Absent) × (owner_of number ≡ me)
   Guard (SendHome x) = (s.places x.number ≡ Employed me) × (x.blocks ≡ [])

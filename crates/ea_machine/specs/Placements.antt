@@ -10,7 +10,7 @@ use Rattle.ea_model.specs.Entries.{Entry}
 use Rattle.ea_model.specs.declared.entries.Entry.TheVariants as entry
 use Rattle.ea_model.specs.Content.{Content}
 use Rattle.ea_model.specs.Instance.{chosen_spot, creating, creating_single, is_alone, place_at}
-use Rattle.ea_model.specs.Instance.{placing_at, plan, single_place}
+use Rattle.ea_model.specs.Instance.{placing_at, plan, refilled, single_place}
 use Rattle.ea_machine.specs.declared.owners.OwnerWord.{OwnerWord}
 use Rattle.ea_machine.specs.Nodes.{with_name}
 use Rattle.ea_machine.specs.declared.nodes.Named.{Named}
@@ -46,6 +46,10 @@ fetches at x a = record a {
   instance = employing a.instance x;
   lists = unlisted at a.lists;
 }
+
+-- the count of its instance is as great as can be
+abbrev pub refills : Actor → Actor
+refills a = record a { instance = refilled a.instance }
 
 module _ (setup : Setup) (me : ℕ) where
   -- the block is placed: an allocation is over, and of a reallocation the old block goes
@@ -112,11 +116,11 @@ module _ (setup : Setup) (me : ℕ) where
   -- the block is placed at the chosen spot, if there is one
   abbrev pub chosen_by : Ask → Actor → Option Spot → Actor
   chosen_by ask a (Some spot) = placed_at ask a spot
-  chosen_by ask a None = search_if ask a (migration setup)
+  chosen_by ask a None = search_if ask (refills a) (migration setup)
 
   -- whether the block has a carrier of its own
   abbrev pub seek_by : Ask → Actor → Bool → Actor
-  seek_by ask a true = new_carrier ask 0 a
+  seek_by ask a true = new_carrier ask 0 (refills a)
   seek_by ask a false = chosen_by ask a (chosen_spot a.instance ask.need)
 
   -- a block is to be placed: above the singleblock threshold in a carrier of its own, else where

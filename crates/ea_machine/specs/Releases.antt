@@ -9,7 +9,8 @@
 -- block is passed on.
 use Rattle.std.specs.Prelude.{ℕ, Bool, true, false, ◌==◌, Option, None, Some}
 use Rattle.ea_model.specs.Content.{Content, is_nil, is_vacant, released}
-use Rattle.ea_model.specs.Instance.{content_of, employed, releasing_at, owner_of}
+use Rattle.ea_model.specs.Instance.{content_of, employed, lowered, releasing_at, owner_of}
+use Rattle.ea_model.specs.declared.units.TheConstants.{RELEASED_COUNT}
 use Rattle.ea_machine.specs.declared.nodes.Node.TheVariants.{Carrier}
 use Rattle.ea_machine.specs.declared.owners.OwnerWord.{OwnerWord}
 use Rattle.ea_machine.specs.declared.owners.OwnerWord.TheVariants as word
@@ -87,7 +88,7 @@ forwarded hand gone a (word.Returning i) = ends gone a
 -- settled next
 abbrev pub tried : Named → Gone → Actor → Answer → Turned
 tried hand gone a (Won x) = goes_on (Settling (released x hand.spot.offset)) (first_gone gone Here)
-    a
+    (record a { instance = lowered RELEASED_COUNT a.instance })
 tried hand gone a (Lost w) = forwarded hand gone a w
 tried hand gone a _ = ends gone a
 
@@ -111,7 +112,8 @@ module _ (setup : Setup) (me : ℕ) where
   -- a carrier from which a block was released, and whether it is to be deallocated
   abbrev pub lightened : Bool → Content → Gone → Actor → Turned
   lightened true x gone a = leaving x gone (dismissed x.number a)
-  lightened false x gone a = abandoned_if (is_due setup.settings a.instance.contents x) x gone a
+  lightened false x gone a = abandoned_if
+      (is_due setup.settings a.instance.count a.instance.contents x) x gone a
 
   -- the content of that carrier; it is always there
   abbrev pub after_release : Gone → Actor → Option Content → Turned

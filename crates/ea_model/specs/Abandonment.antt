@@ -25,8 +25,8 @@ abbrev pub has_large_gap : Settings → Content → Bool
 has_large_gap s x = nat_le s.acfml (UNIT_BYTES * largest (gaps_of x))
 
 -- whether a carrier of these, which an instance employs, is abandoned after a release: it isn't the
--- main one and not empty; it is sparse, and all of them together are; and its largest gap is large
--- enough
-abbrev pub is_due : Settings → List Content → Content → Bool
-is_due s xs x = is_multi x.kind && not (is_nil x.blocks)
-    && (is_sparse_carrier s x && are_sparse s xs && has_large_gap s x)
+-- main one and not empty; it is sparse, and all of them together are; its largest gap is large
+-- enough; and the instance's count is 0
+abbrev pub is_due : Settings → ℕ → List Content → Content → Bool
+is_due s count xs x = nat_le count 0 && (is_multi x.kind && not (is_nil x.blocks)
+    && (is_sparse_carrier s x && are_sparse s xs && has_large_gap s x))

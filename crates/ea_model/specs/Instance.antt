@@ -8,7 +8,8 @@
 -- main carrier, and which block has a singleblock carrier.
 -- Source: Erlang/OTP, 'Carrier Migration', section 'Problem': an empty carrier is deallocated. The
 -- rest is this simulator's own.
-use Rattle.std.specs.Prelude.{ℕ, zero, suc, ◌+◌, ◌-◌, ◌*◌, ◌/◌, max, Bool, false, if◌then◌else◌}
+use Rattle.std.specs.Prelude.{ℕ, zero, suc, ◌+◌, ◌-◌, ◌*◌, ◌/◌, max, Bool, true, false}
+use Rattle.std.specs.Prelude.{if◌then◌else◌}
 use Rattle.std.specs.Prelude.{nat_lt, nat_le, List, [], ◌∷◌, Option, Some, None, Result, Ok, Err}
 use Rattle.std.specs.Prelude.{filter, length, map, sum_by, option_map, is_some}
 use Rattle.std.specs.Option.{option_and_then, option_map_or}
@@ -33,20 +34,22 @@ use Rattle.ea_model.specs.declared.reallocation.Where.{Where}
 use Rattle.ea_model.specs.declared.reallocation.Where.TheVariants as whereabouts
 use Rattle.ea_model.specs.declared.entries.NoCarrier.{NoCarrier}
 use Rattle.ea_model.specs.declared.entries.NoCarrier.TheVariants.{Numbers, Space}
-use Rattle.ea_model.specs.declared.units.TheConstants.{HEADER_UNITS, NUMBERS, PAGE_UNITS}
+use Rattle.ea_model.specs.declared.units.TheConstants.{HEADER_UNITS, MIN_POWER_PAGES, NUMBERS}
+use Rattle.ea_model.specs.declared.units.TheConstants.{PAGE_UNITS, RELEASED_COUNT, RESIZED_COUNT}
 use Rattle.ea_model.specs.Content.{Content, gaps_of, gap_at, gap_behind, block_at, size_of}
 use Rattle.ea_model.specs.Content.{taken_of, placed, released, resized, allocated, largest}
 use Rattle.ea_model.specs.Content.{free_units, is_multi, is_vacant}
 use Rattle.ea_model.specs.Decision.{decision, size_after}
 use Rattle.ea_model.specs.Strategies.{choice_for, spot_of}
-use Rattle.ea_model.specs.Region.{runs, lowest_run, with_segment}
-use Rattle.ea_model.specs.Settings.{is_above_threshold}
+use Rattle.ea_model.specs.Region.{runs, place_in, with_segment}
+use Rattle.ea_model.specs.Settings.{is_above_threshold, most_count, raised}
 use Rattle.ea_model.specs.Keyed.{item_at, entered, merged, without, changed_at}
 
 -- an instance: its number, from 1, its region from page `first` up to `end`, the carriers that it
 -- owns, the contents of main and multiblock carriers that it employs and those of singleblock
--- carriers, each by rising number, and how many carriers it created. It owns the carriers that it
--- created and that aren't deallocated, whoever employs them
+-- carriers, each by rising number, how many carriers it created, and its count, which is 0 where it
+-- abandons one. It owns the carriers that it created and that aren't deallocated, whoever employs
+-- them
 pub record Instance : Type 0 where
   pub settings : Settings
   pub number : ℕ
@@ -56,6 +59,7 @@ pub record Instance : Type 0 where
   pub contents : List Content
   pub singles : List Content
   pub created : ℕ
+  pub count : ℕ
 
 -- the first carrier number of an instance: each has as many, and instance 1 the lowest
 abbrev pub first_number : ℕ → ℕ
@@ -110,6 +114,7 @@ new_instance s instance first pages = record {
   contents = main_carriers s instance first;
   singles = [];
   created = length (main_carriers s instance first);
+  count = most_count s;
 }
 
 -- all contents that an instance employs, by rising number
@@ -161,13 +166,24 @@ abbrev pub growth : Settings → ℕ → ℕ
 growth s n = if nat_le n s.mbcgs then s.smbcs + n * (max s.lmbcs s.smbcs - s.smbcs) / s.mbcgs else
     max s.lmbcs s.smbcs
 
+-- the first of p, 2 * p, 4 * p and so on that is at least n; with k = n there is always one
+unfoldable pub power_from : ℕ → ℕ → ℕ → ℕ
+power_from zero p n = p
+power_from (suc k) p n = if nat_le n p then p else power_from k (2 * p) n
+
+-- the pages of a multiblock carrier that should have these at least: by the rule `powers` the least
+-- power of two, 64 at least
+abbrev pub rounded : Settings → ℕ → ℕ
+rounded s pages = if s.rules.powers then power_from pages MIN_POWER_PAGES pages else pages
+
 -- the pages of the next multiblock carrier, which holds a block of this need
 abbrev pub next_pages : Instance → ℕ → ℕ
-next_pages i need = max (least_pages need) (pages_for (growth i.settings (multis i.contents)))
+next_pages i need = rounded i.settings
+    (max (least_pages need) (pages_for (growth i.settings (multis i.contents))))
 
--- where the lowest free run of the region with that many pages begins
+-- where a segment of the region with that many pages is placed
 abbrev pub free_run : Instance → ℕ → Option ℕ
-free_run i pages = lowest_run pages (runs i.first i.end (segments i.own))
+free_run i pages = place_in i.settings.rules.falling pages (runs i.first i.end (segments i.own))
 
 -- whether a block of this need has a carrier of its own
 abbrev pub is_alone : Instance → ℕ → Bool
@@ -266,7 +282,27 @@ place_at i spot need = record {
 -- the instance with a block at a spot
 abbrev pub placing_at : Instance → Spot → ℕ → ℕ → Instance
 placing_at i spot need name =
-    record i { contents = changed (λ c. placed c spot.offset need name) spot.carrier i.contents }
+    record i {
+      contents = changed (λ c. placed c spot.offset need name) spot.carrier i.contents;
+      count = raised i.settings i.count;
+    }
+
+-- an allocation has no choice, or a carrier of its own: the count is as great as can be
+abbrev pub refilled : Instance → Instance
+refilled i = record i { count = most_count i.settings }
+
+-- the count is less by n, and 0 at least
+abbrev pub lowered : ℕ → Instance → Instance
+lowered n i = record i { count = i.count - n }
+
+-- that count, where it is a main or multiblock carrier
+abbrev pub lessened : Bool → ℕ → ℕ → ℕ
+lessened true n count = count - n
+lessened false n count = count
+
+-- that count after a block of the carrier is released, or is resized where it is
+abbrev pub count_less : ℕ → Instance → ℕ → ℕ
+count_less n i number = lessened (has_content number i.contents) n i.count
 
 -- the instance where the content of a number is changed
 abbrev pub changing : Instance → (Content → Content) → ℕ → Instance
@@ -277,7 +313,8 @@ changing i f number = record i {
 
 -- the instance without the block at a spot
 abbrev pub releasing_at : Instance → Spot → Instance
-releasing_at i spot = changing i (λ c. released c spot.offset) spot.carrier
+releasing_at i spot = record (changing i (λ c. released c spot.offset) spot.carrier)
+    { count = count_less RELEASED_COUNT i spot.carrier }
 
 -- the contents without that of the number
 abbrev pub without_content : ℕ → List Content → List Content
@@ -319,6 +356,11 @@ resized_to i spot need = size_after (decision_at i spot need) (size_at i spot) n
 abbrev pub resized_in : Instance → Spot → ℕ → ℕ → Instance
 resized_in i spot size name = changing i (λ c. resized c spot.offset size name) spot.carrier
 
+-- the same where it shrinks or grows there
+abbrev pub resized_more : Instance → Spot → ℕ → ℕ → Instance
+resized_more i spot size name = record (resized_in i spot size name)
+    { count = count_less RESIZED_COUNT i spot.carrier }
+
 -- its singleblock carrier has that many pages
 abbrev pub shortened : Instance → ℕ → ℕ → Instance
 shortened i number pages = record i {
@@ -329,8 +371,8 @@ shortened i number pages = record i {
 -- a decision is carried out; where the block is to move nothing is done
 abbrev pub resized_by : Decision → Instance → Spot → ℕ → ℕ → Instance
 resized_by Stay i spot size name = resized_in i spot size name
-resized_by ShrinkHere i spot size name = resized_in i spot size name
-resized_by GrowHere i spot size name = resized_in i spot size name
+resized_by ShrinkHere i spot size name = resized_more i spot size name
+resized_by GrowHere i spot size name = resized_more i spot size name
 resized_by (ShrinkCarrier pages) i spot size name =
     shortened (resized_in i spot size name) spot.carrier pages
 resized_by Move i spot size name = i

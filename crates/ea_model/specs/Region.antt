@@ -1,10 +1,12 @@
 -- A region of pages, and the runs of it that no segment covers. It defines the lowest run that is
 -- long enough, and how segments are taken and given back.
 -- This simulator's own: the sources leave it undecided.
-use Rattle.std.specs.Prelude.{◌≡◌, ◌⊎◌, ℕ, ◌+◌, ◌-◌, ◌<◌, ◌≤◌, max, Bool, ◌&&◌, if◌then◌else◌}
-use Rattle.std.specs.Prelude.{nat_lt, nat_le, List, [], ◌∷◌, ◌++◌, Option, find, option_map, All}
-use Rattle.std.specs.Prelude.{Any}
+use Rattle.std.specs.Prelude.{◌≡◌, ◌⊎◌, ℕ, ◌+◌, ◌-◌, ◌<◌, ◌≤◌, max, Bool, true, false, ◌&&◌}
+use Rattle.std.specs.Prelude.{if◌then◌else◌}
+use Rattle.std.specs.Prelude.{nat_lt, nat_le, List, [], ◌∷◌, ◌++◌, Option, None, Some, find}
+use Rattle.std.specs.Prelude.{option_map, All, Any}
 use Rattle.std.specs.List.{flat_map}
+use Rattle.std.specs.Option.{option_or}
 use Rattle.ea_model.specs.declared.carriers.Segment.{Segment}
 use Rattle.ea_model.specs.Keyed.{entered}
 
@@ -30,6 +32,17 @@ runs_of r = runs r.first r.end r.taken
 -- where the lowest run of at least that many pages begins
 abbrev pub lowest_run : ℕ → List Segment → Option ℕ
 lowest_run pages rs = option_map (λ r. r.base) (find (λ r. nat_le pages r.pages) rs)
+
+-- where the last pages of the highest run of at least that many begin
+unfoldable pub highest_end : ℕ → List Segment → Option ℕ
+highest_end pages [] = None
+highest_end pages (r ∷ rs) = option_or (highest_end pages rs)
+    (if nat_le pages r.pages then Some (r.base + r.pages - pages) else None)
+
+-- where a segment of that many pages is placed: whether segments fall
+abbrev pub place_in : Bool → ℕ → List Segment → Option ℕ
+place_in true pages rs = highest_end pages rs
+place_in false pages rs = lowest_run pages rs
 
 -- s among the segments, by its base
 abbrev pub with_segment : Segment → List Segment → List Segment

@@ -3,7 +3,8 @@
 -- Source: Erlang/OTP, 'erts_alloc', section 'Flags for Configuration of Allocators Based on
 -- alloc_util', flag acul: under which strategies carriers migrate, and that those of temp_alloc
 -- don't. The rest is this simulator's own.
-use Rattle.std.specs.Prelude.{◌≡◌, ℕ, ◌*◌, ◌/◌, ◌<◌, ◌≤◌, nat_lt, Bool, true, false}
+use Rattle.std.specs.Prelude.{◌≡◌, ℕ, ◌+◌, ◌*◌, ◌/◌, ◌<◌, ◌≤◌, min, nat_lt, Bool, true, false}
+use Rattle.std.specs.Prelude.{if◌then◌else◌}
 use Rattle.ea_model.specs.declared.settings.Letter.{Letter}
 use Rattle.ea_model.specs.declared.settings.Letter.TheVariants.{B, D, E, H, L, R, S, T}
 use Rattle.ea_model.specs.declared.settings.Strategy.{Strategy}
@@ -12,10 +13,12 @@ use Rattle.ea_model.specs.declared.settings.Strategy.TheVariants.{AoffCaobf, Age
 use Rattle.ea_model.specs.declared.settings.Strategy.TheVariants.{AgeffCaobf, Gf, Af}
 use Rattle.ea_model.specs.declared.settings.Settings.{Settings}
 use Rattle.ea_model.specs.declared.settings.Config.{Config}
+use Rattle.ea_model.specs.declared.settings.Rules.{Rules}
 use Rattle.ea_model.specs.declared.units.TheConstants.{KILOBYTE_UNITS, MAX_BYTES}
 use Rattle.ea_model.specs.declared.units.TheConstants.{MAX_GROWTH_CARRIERS, MAX_MEGABYTES}
 use Rattle.ea_model.specs.declared.units.TheConstants.{MAX_PERCENT, MAX_SCHEDULERS}
 use Rattle.ea_model.specs.declared.units.TheConstants.{MAX_SEARCH_DEPTH, MAX_UNITS, MEGABYTE_PAGES}
+use Rattle.ea_model.specs.declared.units.TheConstants.{MOST_COUNT, PLACED_COUNT}
 use Rattle.ea_model.specs.Units.{pages_for}
 
 -- the settings of an allocator
@@ -40,6 +43,30 @@ is_above_threshold s need = nat_lt s.sbct need
 -- whether carriers migrate
 abbrev pub lets_migrate : Settings → Bool
 lets_migrate s = nat_lt 0 s.acul
+
+-- the most that an instance's count comes to: 0 where the rule `counter` doesn't hold
+abbrev pub most_count : Settings → ℕ
+most_count s = if s.rules.counter then MOST_COUNT else 0
+
+-- the count after a block was placed in a main or multiblock carrier
+abbrev pub raised : Settings → ℕ → ℕ
+raised s count = min (count + PLACED_COUNT) (most_count s)
+
+-- settings, and those of all allocators, by these rules
+abbrev pub ruled : Rules → Settings → Settings
+ruled r s = record s { rules = r }
+
+abbrev pub by_rules : Rules → Config → Config
+by_rules r c = record c {
+  b = ruled r c.b;
+  d = ruled r c.d;
+  e = ruled r c.e;
+  h = ruled r c.h;
+  l = ruled r c.l;
+  r = ruled r c.r;
+  s = ruled r c.s;
+  t = ruled r c.t;
+}
 
 -- whether carriers can migrate under the strategy
 abbrev pub can_migrate : Strategy → Bool

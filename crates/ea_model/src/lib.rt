@@ -25,12 +25,12 @@ pub use logs::Log;
 pub use operations::Op;
 pub use outcome::Outcome;
 pub use reallocation::{Decision, Where};
-pub use settings::{Config, Letter, Settings, Strategy};
+pub use settings::{Config, Letter, NO_RULES, Rules, Settings, Strategy};
 pub use trace::{Mode, Stop, Trace, Turns};
 pub use units::{
     HEADER_UNITS, KILOBYTE_UNITS, LIST_LIMIT, MAX_ALL_TRIES, MAX_BYTES, MAX_DIGITS,
     MAX_GROWTH_CARRIERS, MAX_INPUT, MAX_MEGABYTES, MAX_NAME, MAX_OPS, MAX_PAGES, MAX_PERCENT,
     MAX_SCHEDULERS, MAX_SEARCH_DEPTH, MAX_SEED, MAX_STEPS, MAX_TRIES, MAX_TURNS, MEGABYTE_PAGES,
-    MIN_BLOCK, NUMBERS, PAGE_UNITS, SEARCH_LIMIT, UNIT_BYTES, constants, least_pages, need,
-    pages_for,
+    MIN_BLOCK, MIN_POWER_PAGES, MOST_COUNT, NUMBERS, PAGE_UNITS, PLACED_COUNT, RELEASED_COUNT,
+    RESIZED_COUNT, SEARCH_LIMIT, UNIT_BYTES, constants, least_pages, need, pages_for,
 };

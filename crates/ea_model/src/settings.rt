@@ -1,9 +1,10 @@
 //! What the emulator flags set.
 ghost use Rattle.std.specs.Prelude.{◌≡◌, ◌≤◌};
 ghost use Rattle.ea_model.specs.declared.units.TheConstants.{MAX_MEGABYTES};
-ghost use Rattle.ea_model.specs.Settings.{is_above_threshold, lets_migrate, region_pages, settings_of};
+ghost use Rattle.ea_model.specs.Settings.{by_rules, is_above_threshold, lets_migrate, most_count};
+ghost use Rattle.ea_model.specs.Settings.{raised, region_pages, settings_of};
 
-use crate::units::MEGABYTE_PAGES;
+use crate::units::{MEGABYTE_PAGES, MOST_COUNT, PLACED_COUNT};
 
 /// How a gap is chosen among the carriers of an instance.
 ///
@@ -48,6 +49,24 @@ pub enum Letter {
     T,
 }
 
+/// The rules of a node that hold in a run. A line of recorded operations sets them, and no flag.
+#[derive(Debug, Clone, Copy, PartialEq, Eq)]
+pub struct Rules {
+    /// A new multiblock carrier has a power of two of pages, 64 at least.
+    pub powers: bool,
+    /// A segment is placed at the end of the highest free run that holds it.
+    pub falling: bool,
+    /// An instance abandons a carrier only where its count is 0.
+    pub counter: bool,
+}
+
+/// No rule: what holds where no line sets one.
+pub const NO_RULES: Rules = Rules {
+    powers: false,
+    falling: false,
+    counter: false,
+};
+
 /// The settings of one allocator. Sizes of carriers and thresholds are in units, 128 a kilobyte.
 ///
 /// They have the names of the flags of Erlang/OTP's 'erts_alloc', section 'Flags for Configuration
@@ -83,6 +102,8 @@ pub struct Settings {
     pub asbcst: u32,
     /// Whether a reallocation always moves.
     pub ramv: bool,
+    /// The rules of a node that hold.
+    pub rules: Rules,
 }
 
 impl Settings {
@@ -99,6 +120,27 @@ impl Settings {
     {
         self.acul > 0
     }
+
+    /// The most that an instance's count comes to: 0 where the rule `counter` doesn't hold.
+    pub fn most_count(&self) -> u32
+        ensures { result ≡ most_count self.now }
+    {
+        if self.rules.counter { MOST_COUNT } else { 0 }
+    }
+
+    /// The count after a block was placed in a main or multiblock carrier.
+    pub fn raised(&self, count: u32) -> u32
+        ensures { result ≡ raised self.now count }
+    {
+        count.saturating_add(PLACED_COUNT).min(self.most_count())
+    }
+}
+
+/// The settings by these rules.
+fn ruled(settings: Settings, rules: Rules) -> Settings
+    ensures { result ≡ Rattle.ea_model.specs.Settings.ruled rules settings }
+{
+    Settings { rules, ..settings }
 }
 
 /// What all flags set: the schedulers, the super carrier in megabytes, and each allocator's
@@ -134,6 +176,23 @@ impl Config {
             Letter::R => self.r,
             Letter::S => self.s,
             Letter::T => self.t,
+        }
+    }
+
+    /// The same of each allocator, by these rules.
+    pub fn by_rules(self, rules: Rules) -> Config
+        ensures { result ≡ by_rules rules self }
+    {
+        Config {
+            b: ruled(self.b, rules),
+            d: ruled(self.d, rules),
+            e: ruled(self.e, rules),
+            h: ruled(self.h, rules),
+            l: ruled(self.l, rules),
+            r: ruled(self.r, rules),
+            s: ruled(self.s, rules),
+            t: ruled(self.t, rules),
+            ..self
         }
     }
 

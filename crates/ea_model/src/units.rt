@@ -46,6 +46,16 @@ pub const MAX_PERCENT: u32 = 100;
 pub const MAX_GROWTH_CARRIERS: u32 = 10_000;
 /// The most gaps of a bin that good fit inspects.
 pub const MAX_SEARCH_DEPTH: u32 = 1000;
+/// The most that an instance's count comes to, which holds back abandoning.
+pub const MOST_COUNT: u32 = 1000;
+/// What a block that is placed raises the count by.
+pub const PLACED_COUNT: u32 = 8;
+/// What a block that is released lowers it by.
+pub const RELEASED_COUNT: u32 = 10;
+/// What a block that shrinks or grows where it is lowers it by.
+pub const RESIZED_COUNT: u32 = 2;
+/// The least pages of a multiblock carrier by the rule `powers`.
+pub const MIN_POWER_PAGES: u32 = 64;
 /// The megabytes of the largest super carrier.
 pub const MAX_MEGABYTES: u32 = 512;
 /// The pages of the largest super carrier, 512 megabytes.

@@ -2,8 +2,10 @@
 use Rattle.std.proofs.Common.{◌≡◌, ℕ, List, refl, sym, ap, ◌∙◌}
 use Rattle.ea_model.specs.declared.outcome.Outcome.{Outcome}
 use Rattle.ea_model.specs.declared.settings.Config.{Config}
+use Rattle.ea_model.specs.declared.settings.Rules.{Rules}
 use Rattle.ea_model.specs.declared.trace.Trace.{Trace}
 use Rattle.ea_model.specs.Outcome.{plain_outcome}
+use Rattle.ea_model.specs.Settings.{by_rules}
 use Rattle.ea_model.specs.Trace.{IsValidTrace, plain}
 use Rattle.ea_model.proofs.Outcomes.{same-logs}
 use Rattle.ea_machine.specs.Outcome.{outcome}
@@ -16,15 +18,15 @@ use Rattle.ea_recorded.specs.Output.{IsRecordedText}
 same-text : (o : Outcome) → outcome_text o ≡ outcome_text (plain_outcome o)
 same-text o = rw (same-logs o) refl
 
--- the text of an outcome of the run of a trace by lines is that of the trace as a definition
--- answers it
-pub recorded-text : (c : Config) (t : Trace) (order : List ℕ) (o : Outcome) (text : List ℕ)
-    → IsValidTrace c.schedulers t
-    → plain_outcome o ≡ outcome (setup_of c t) (recorded_turns (setup_of c t) order)
-    → text ≡ outcome_text o
-    → IsRecordedText c (record { trace = plain t; order = order }) text
-recorded-text c t order o text valid ran printed = record {
+-- the text of an outcome of the run of a trace by rules and lines is that of the trace as a
+-- definition answers it
+pub recorded-text : (c : Config) (r : Rules) (t : Trace) (order : List ℕ) (o : Outcome)
+    (text : List ℕ) → IsValidTrace c.schedulers t
+    → (let setup = setup_of (by_rules r c) t in
+    plain_outcome o ≡ outcome setup (recorded_turns setup order)) → text ≡ outcome_text o
+    → IsRecordedText c (record { rules = r; trace = plain t; order = order }) text
+recorded-text c r t order o text valid ran printed = record {
   valid = valid-plain c.schedulers t valid;
   printed = printed ∙ same-text o ∙ ap outcome_text (ran
-      ∙ ap (λ e. outcome e (recorded_turns e order)) (sym (same-setup c t)));
+      ∙ ap (λ e. outcome e (recorded_turns e order)) (sym (same-setup (by_rules r c) t)));
 }

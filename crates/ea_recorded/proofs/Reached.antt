@@ -1,16 +1,18 @@
 -- One line more of an input is read.
-use Rattle.std.proofs.Common.{◌≡◌, ℕ, ◌+◌, ◌<◌, ◌≤◌, ◌||◌, ◌==◌, Bool, true, false, List, [], ◌∷◌}
-use Rattle.std.proofs.Common.{◌++◌, Option, Some, None, Ok, Err, length, map, refl, sym, ap, subst}
-use Rattle.std.proofs.Common.{◌∙◌, arith}
+use Rattle.std.proofs.Common.{◌≡◌, ◌≢◌, ℕ, ◌+◌, ◌<◌, ◌≤◌, ◌||◌, ◌==◌, Bool, true, false, List, []}
+use Rattle.std.proofs.Common.{◌∷◌, ◌++◌, Option, Some, None, Ok, Err, length, map, refl, sym, ap}
+use Rattle.std.proofs.Common.{subst, ◌∙◌, arith}
 use Rattle.std.specs.Borrow.{Bor}
 use Rattle.std.specs.Option.{option_map_or}
-use Rattle.std.specs.Prelude.{All, IfSome, Result, nat_lt}
+use Rattle.std.specs.Prelude.{All, IfSome, Result, bytes_eq, codes, if◌then◌else◌, nat_lt}
 use Rattle.std.proofs.lemmas.List.{length-append, length-map, map-append}
 use Rattle.std.proofs.lemmas.List.Elements.{All-append, All-cons, All-nil}
 use Rattle.ea_model.specs.Trace.{IsScheduler, plain}
 use Rattle.ea_model.specs.declared.operations.Op.{Op}
 use Rattle.ea_model.specs.declared.operations.Op.TheVariants.{Alloc}
 use Rattle.ea_model.specs.declared.settings.Letter.{Letter}
+use Rattle.ea_model.specs.declared.settings.Rules.{Rules}
+use Rattle.ea_model.specs.declared.settings.TheConstants.{NO_RULES}
 use Rattle.ea_model.specs.declared.trace.Trace.{Trace}
 use Rattle.ea_trace.specs.Language.{Answer, Gives, LineWords, WordLines, gives_outside, is_outside}
 use Rattle.ea_trace.specs.Language.{trace_of}
@@ -19,16 +21,17 @@ use Rattle.ea_trace.specs.declared.fault.TraceFault.{TraceFault}
 use Rattle.ea_trace.specs.declared.fault.TraceFault.TheVariants as fault
 use Rattle.ea_trace.specs.declared.lines.Line.TheVariants as said
 use Rattle.ea_recorded.specs.Input.{GivesInput}
-use Rattle.ea_recorded.specs.Language.{Asked, Told, addressed, after_first, asked_by, is_bad}
-use Rattle.ea_recorded.specs.Language.{line_by, line_of, may_stand, next, operation_by, order_of}
-use Rattle.ea_recorded.specs.Language.{answer_in, asked_for, asked_if, ended_letter, read_after}
-use Rattle.ea_recorded.specs.Language.{refusal, refused_by, told_by, trace_lines, words_of}
+use Rattle.ea_recorded.specs.Language.{Asked, Told, addressed, after_first, answer_in, asked_by}
+use Rattle.ea_recorded.specs.Language.{asked_for, at_end, is_bad, line_by, line_of, may_stand, next}
+use Rattle.ea_recorded.specs.Language.{operation_by, order_of, read_after, refusal, refused_by}
+use Rattle.ea_recorded.specs.Language.{rules_of, told_by, trace_lines, with_rules, words_of}
 use Rattle.ea_recorded.specs.Reading.{Reads, end_refusal, or_later}
 use Rattle.ea_recorded.specs.Told.{AreTold, IsInRange, IsLineInRange, IsSaid, ToldLines}
 use Rattle.ea_recorded.specs.declared.lines.OwnLine.{OwnLine}
 use Rattle.ea_recorded.specs.declared.lines.RecordedLine.{RecordedLine}
 use Rattle.ea_recorded.specs.declared.lines.RecordedLine.TheVariants as line
 use Rattle.ea_recorded.specs.declared.lines.Stage.{Stage}
+use Rattle.ea_recorded.specs.declared.lines.Stage.TheVariants as at
 use Rattle.ea_recorded.specs.declared.reader.Reading.{Reading}
 
 -- what an operation line says is said by its words after the scheduler
@@ -51,10 +54,27 @@ by-said (Some j) said.End i op e = absurd cc
 by-said (Some j) said.Unreadable i op e = absurd cc
 by-said None s i op e = absurd cc
 
+-- a line of rules says none
+by-rules : (o : Option Rules) (s : Said) (i : ℕ) (op : Op)
+    → option_map_or line.Rules o line.Unreadable ≡ line.Operation i op → s ≡ said.Operation op
+by-rules (Some r) s i op e = absurd cc
+by-rules None s i op e = absurd cc
+
+rules-said : (ws : LineWords) (s : Said) (i : ℕ) (op : Op) → rules_of ws ≡ line.Operation i op
+    → s ≡ said.Operation op
+rules-said [] s i op e = absurd cc
+rules-said (w ∷ ws) s i op e = by-rules (with_rules NO_RULES (w ∷ ws)) s i op e
+
+first-said : (rules : Bool) (w : List ℕ) (ws : LineWords) (i : ℕ) (op : Op)
+    → (if rules then rules_of ws else operation_by (scheduler_in w) (line_of_words ws))
+    ≡ line.Operation i op → line_of_words ws ≡ said.Operation op
+first-said true w ws i op e = rules-said ws (line_of_words ws) i op e
+first-said false w ws i op e = by-said (scheduler_in w) (line_of_words ws) i op e
+
 addressed-said : (ws : LineWords) (i : ℕ) (op : Op) → addressed ws ≡ line.Operation i op
     → line_of_words (after_first ws) ≡ said.Operation op
 addressed-said [] i op e = absurd cc
-addressed-said (w ∷ ws) i op e = by-said (scheduler_in w) (line_of_words ws) i op e
+addressed-said (w ∷ ws) i op e = first-said (bytes_eq w (codes "rules")) w ws i op e
 
 line-addressed : (s : Said) (ws : LineWords) (i : ℕ) (op : Op) → line_by s ws ≡ line.Operation i op
     → addressed ws ≡ line.Operation i op
@@ -76,6 +96,7 @@ told-said number ws (line.Operation i op) e = All-cons IsSaid _ []
     (addressed-said ws i op (line-addressed (line_of_words ws) ws i op (sym e))) (All-nil IsSaid)
 told-said number ws line.Skipped e = All-nil IsSaid
 told-said number ws (line.Letter x) e = All-nil IsSaid
+told-said number ws (line.Rules r) e = All-nil IsSaid
 told-said number ws line.End e = All-nil IsSaid
 told-said number ws line.Unreadable e = All-nil IsSaid
 
@@ -85,6 +106,7 @@ told-ranges number ws (line.Operation i op) range =
     All-cons IsInRange _ [] range (All-nil IsInRange)
 told-ranges number ws line.Skipped range = All-nil IsInRange
 told-ranges number ws (line.Letter x) range = All-nil IsInRange
+told-ranges number ws (line.Rules r) range = All-nil IsInRange
 told-ranges number ws line.End range = All-nil IsInRange
 told-ranges number ws line.Unreadable range = All-nil IsInRange
 
@@ -116,6 +138,7 @@ theirs-by n number ws (line.Operation i op) good = All-cons (IsScheduler n) i []
     (inside n i (or-left (is_outside n i) (gives_outside n op) good)) (All-nil (IsScheduler n))
 theirs-by n number ws line.Skipped good = All-nil (IsScheduler n)
 theirs-by n number ws (line.Letter x) good = All-nil (IsScheduler n)
+theirs-by n number ws (line.Rules r) good = All-nil (IsScheduler n)
 theirs-by n number ws line.End good = All-nil (IsScheduler n)
 theirs-by n number ws line.Unreadable good = All-nil (IsScheduler n)
 
@@ -123,6 +146,7 @@ few-by : (number : ℕ) (ws : LineWords) (l : RecordedLine) → length (told_by 
 few-by number ws (line.Operation i op) = omega arith
 few-by number ws line.Skipped = omega arith
 few-by number ws (line.Letter x) = omega arith
+few-by number ws (line.Rules r) = omega arith
 few-by number ws line.End = omega arith
 few-by number ws line.Unreadable = omega arith
 
@@ -236,16 +260,16 @@ few-lines n asked number left r reads = omega (
 
 -- the answer of the trace is that of the input
 
-pub trace-err : (f : TraceFault) (order : List ℕ) (read : Answer) → Gives (Err f) read
-    → GivesInput (Err f) (asked_by order read)
-trace-err (fault.Syntax number) order read e = ap (asked_by order) e
-trace-err (fault.BadScheduler number) order read e = ap (asked_by order) e
-trace-err (fault.NameReused number) order read e = ap (asked_by order) e
-trace-err (fault.NotHeld number) order read e = ap (asked_by order) e
-trace-err (fault.NotAddressed number) order read e = ap (asked_by order) e
-trace-err (fault.TooMany number) order read e = ap (asked_by order) e
-trace-err fault.NoEnd order read e = ap (asked_by order) e
-trace-err fault.OutOfMemory order read e = tt
+pub trace-err : (f : TraceFault) (r : Rules) (order : List ℕ) (read : Answer)
+    → Gives (Err f) read → GivesInput (Err f) (asked_by r order read)
+trace-err (fault.Syntax number) r order read e = ap (asked_by r order) e
+trace-err (fault.BadScheduler number) r order read e = ap (asked_by r order) e
+trace-err (fault.NameReused number) r order read e = ap (asked_by r order) e
+trace-err (fault.NotHeld number) r order read e = ap (asked_by r order) e
+trace-err (fault.NotAddressed number) r order read e = ap (asked_by r order) e
+trace-err (fault.TooMany number) r order read e = ap (asked_by r order) e
+trace-err fault.NoEnd r order read e = ap (asked_by r order) e
+trace-err fault.OutOfMemory r order read e = tt
 
 -- the line that stands for one that isn't there
 abbrev pub no_line : OwnLine
@@ -258,29 +282,39 @@ schedulers-is : (ts : ToldLines)
 schedulers-is [] = refl
 schedulers-is (t ∷ ts) = ap (λ os. t.own.scheduler ∷ os) (schedulers-is ts)
 
+-- `end` isn't reached
+abbrev pub IsUnended : Stage → Type 0
+IsUnended stage = (x : Letter) (r : Rules) → stage ≢ at.Ended x r
+
 pub not-ended : (n number : ℕ) (asked : Asked) (r : Reading) → Reads n asked number [] r
-    → (o : Option Letter) → o ≡ ended_letter r.stage → o ≡ None → asked ≡ Err fault.NoEnd
-not-ended n number asked r reads o same none =
-    reads.gives ∙ ap (asked_if n reads.told) (sym same ∙ none)
+    → IsUnended r.stage → asked ≡ Err fault.NoEnd
+not-ended n number asked r reads not = reads.gives ∙ unended n reads.told r.stage not
+  where
+    unended : (n : ℕ) (told : ToldLines) (stage : Stage) → IsUnended stage
+        → at_end n stage told ≡ Err fault.NoEnd
+    unended n told at.Start not = refl
+    unended n told (at.Typed x) not = refl
+    unended n told (at.Lines x r) not = refl
+    unended n told (at.Ended x r) not = absurd (not x r refl)
 
 module _ (n number : ℕ) (asked : Asked) (r : Reading) (reads : Reads n asked number [] r)
-    (x : Letter) (o : Option Letter) (same : o ≡ ended_letter r.stage) (is : o ≡ Some x) where
-  ended : asked ≡ asked_for r.schedulers x reads.told
-  ended = reads.gives ∙ ap (asked_if n reads.told) (sym same ∙ is)
-      ∙ ap (λ k. asked_for k x reads.told) (sym reads.schedulers)
+    (x : Letter) (rules : Rules) (is : r.stage ≡ at.Ended x rules) where
+  ended : asked ≡ asked_for r.schedulers x rules reads.told
+  ended = reads.gives ∙ ap (λ st. at_end n st reads.told) is
+      ∙ ap (λ k. asked_for k x rules reads.told) (sym reads.schedulers)
 
   pub ended-ok : (t : Trace) (order : List ℕ) → order ≡ map (λ (o : OwnLine). o.scheduler)
       r.lines.items → (let ls = trace_lines r.schedulers x reads.told in
       Gives (Ok t) (answer_in ls (trace_of r.schedulers (words_of ls))))
-      → asked ≡ Ok (record { trace = plain t; order = order })
-  ended-ok t order same gives = ended ∙ ap (asked_by (order_of reads.told)) gives
-      ∙ ap (λ os. Ok (record { trace = plain t; order = os })) (sym (same
+      → asked ≡ Ok (record { rules = rules; trace = plain t; order = order })
+  ended-ok t order same gives = ended ∙ ap (asked_by rules (order_of reads.told)) gives
+      ∙ ap (λ os. Ok (record { rules = rules; trace = plain t; order = os })) (sym (same
       ∙ ap (map (λ (o : OwnLine). o.scheduler)) reads.own.own ∙ schedulers-is reads.told))
 
   pub ended-err : (f : TraceFault) → (let ls = trace_lines r.schedulers x reads.told in
       Gives (Err f) (answer_in ls (trace_of r.schedulers (words_of ls)))) → GivesInput (Err f) asked
   ended-err f gives = subst (GivesInput (Err f)) (sym ended)
-      (trace-err f (order_of reads.told) _ gives)
+      (trace-err f rules (order_of reads.told) _ gives)
 
 pub order-theirs : (n number : ℕ) (asked : Asked) (r : Reading) → Reads n asked number [] r
     → (order : List ℕ) → order ≡ map (λ (o : OwnLine). o.scheduler) r.lines.items
@@ -370,12 +404,14 @@ kept-is true not = refl
 kept-is false not = not refl
 
 -- with `end` there is no refusal at the end
-pub at-end-none : (P : TraceFault → Type 0) (o p : Option Letter) (x : Letter) → p ≡ o
-    → p ≡ Some x → IfSome (end_refusal o) P
-at-end-none P o p x same is = subst (λ q. IfSome (end_refusal q) P) (sym is ∙ same) tt
+pub at-end-none : (P : TraceFault → Type 0) (stage : Stage) (x : Letter) (r : Rules)
+    → stage ≡ at.Ended x r → IfSome (end_refusal stage) P
+at-end-none P stage x r is = subst (λ st. IfSome (end_refusal st) P) (sym is) tt
 
-pub at-end-some : (A : Type 0) (o p : Option Letter) → p ≡ o → p ≡ None
-    → IfSome (end_refusal o) (λ f. ◌≡◌ {A = Result A TraceFault} (Err fault.NoEnd) (Err f))
-at-end-some A o p same is =
-    subst (λ q. IfSome (end_refusal q)
-    (λ f. ◌≡◌ {A = Result A TraceFault} (Err fault.NoEnd) (Err f))) (sym is ∙ same) refl
+-- and without it there is this one
+pub at-end-some : (A : Type 0) (stage : Stage) → IsUnended stage → IfSome (end_refusal stage)
+    (λ f. ◌≡◌ {A = Result A TraceFault} (Err fault.NoEnd) (Err f))
+at-end-some A at.Start not = refl
+at-end-some A (at.Typed x) not = refl
+at-end-some A (at.Lines x r) not = refl
+at-end-some A (at.Ended x r) not = absurd (not x r refl)

@@ -8,7 +8,7 @@ use Rattle.ea_recorded.specs.declared.input.RecordedInput.{RecordedInput}
 
 -- what an input asks for that was read as this
 abbrev pub asked_in : RecordedInput → Recorded
-asked_in i = record { trace = plain i.trace; order = i.order.items }
+asked_in i = record { rules = i.rules; trace = plain i.trace; order = i.order.items }
 
 -- an answer is what the input asks for, or its refusal, or there was no memory
 abbrev pub GivesInput : Result RecordedInput TraceFault → Asked → Type 0

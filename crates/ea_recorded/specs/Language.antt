@@ -2,10 +2,14 @@
 -- (`trace_lines`), and what is refused. A line is the list of its words. A line of the trace that
 -- isn't in the input has the number 0 in `trace_lines`. It is never refused; no clause says so.
 -- This simulator's own: the sources do not speak of it.
-use Rattle.std.specs.Prelude.{ℕ, zero, suc, ◌+◌, ◌-◌, ◌==◌, Bool, true, false, ◌||◌, not}
+use Rattle.std.specs.Prelude.{ℕ, zero, suc, ◌+◌, ◌-◌, ◌==◌, Bool, true, false, ◌&&◌, ◌||◌, not}
 use Rattle.std.specs.Prelude.{if◌then◌else◌, List, [], ◌∷◌, ◌++◌, Option, None, Some, Result, Ok, Err}
-use Rattle.std.specs.Prelude.{codes, decimal, filter, map, slice_index_or}
+use Rattle.std.specs.Prelude.{bytes_eq, codes, decimal, filter, map, option_and_then}
+use Rattle.std.specs.Prelude.{slice_index_or}
+use Rattle.std.specs.Option.{option_map_or}
 use Rattle.ea_model.specs.declared.settings.Letter.{Letter}
+use Rattle.ea_model.specs.declared.settings.Rules.{Rules}
+use Rattle.ea_model.specs.declared.settings.TheConstants.{NO_RULES}
 use Rattle.ea_model.specs.declared.trace.Trace.{Trace}
 use Rattle.ea_trace.specs.Language.{Answer, LineWords, WordLines, gives_outside, is_outside}
 use Rattle.ea_trace.specs.Language.{lines_of, trace_of}
@@ -27,11 +31,31 @@ operation_by (Some i) (said.Operation op) = line.Operation i op
 operation_by (Some i) other = line.Unreadable
 operation_by None other = line.Unreadable
 
+-- these rules and that of a word, if it is a rule and none of them
+abbrev pub with_rule : Rules → List ℕ → Option Rules
+with_rule r w =
+    if bytes_eq w (codes "powers") && not r.powers then Some (record r { powers = true }) else (
+    if bytes_eq w (codes "falling") && not r.falling then Some (record r { falling = true }) else (
+    if bytes_eq w (codes "counter") && not r.counter then Some (record r { counter = true }) else
+    None))
+
+-- these rules and those of words, if each is a rule and none stands twice
+abbrev pub with_rules : Rules → LineWords → Option Rules
+with_rules r [] = Some r
+with_rules r (w ∷ ws) = option_and_then (λ more. with_rules more ws) (with_rule r w)
+
+-- what words after `rules` say: one rule at least
+abbrev pub rules_of : LineWords → RecordedLine
+rules_of [] = line.Unreadable
+rules_of (w ∷ ws) = option_map_or line.Rules (with_rules NO_RULES (w ∷ ws)) line.Unreadable
+
 abbrev pub addressed : LineWords → RecordedLine
 addressed [] = line.Unreadable
-addressed (w ∷ ws) = operation_by (scheduler_in w) (line_of_words ws)
+addressed (w ∷ ws) = if bytes_eq w (codes "rules") then rules_of ws else
+    operation_by (scheduler_in w) (line_of_words ws)
 
--- by what it says in a trace: an operation has its scheduler before it
+-- by what it says in a trace: an operation has its scheduler before it, and `rules` says nothing
+-- there
 abbrev pub line_by : Said → LineWords → RecordedLine
 line_by said.Skipped ws = line.Skipped
 line_by (said.Letter x) ws = line.Letter x
@@ -41,12 +65,15 @@ line_by other ws = addressed ws
 abbrev pub line_of : LineWords → RecordedLine
 line_of ws = line_by (line_of_words ws) ws
 
--- whether a line may stand there: first `type`, then operations, then `end`
+-- whether a line may stand there: first `type`, then `rules` perhaps, then operations, then `end`
 abbrev pub may_stand : Stage → RecordedLine → Bool
 may_stand stage line.Skipped = true
 may_stand at.Start (line.Letter x) = true
-may_stand (at.Lines x) (line.Operation i op) = true
-may_stand (at.Lines x) line.End = true
+may_stand (at.Typed x) (line.Rules r) = true
+may_stand (at.Typed x) (line.Operation i op) = true
+may_stand (at.Typed x) line.End = true
+may_stand (at.Lines x r) (line.Operation i op) = true
+may_stand (at.Lines x r) line.End = true
 may_stand stage other = false
 
 -- whether a line names a scheduler that isn't among n
@@ -56,8 +83,11 @@ is_bad n other = false
 
 -- the part after a line that stands there
 abbrev pub next : Stage → RecordedLine → Stage
-next at.Start (line.Letter x) = at.Lines x
-next (at.Lines x) line.End = at.Ended x
+next at.Start (line.Letter x) = at.Typed x
+next (at.Typed x) (line.Rules r) = at.Lines x r
+next (at.Typed x) (line.Operation i op) = at.Lines x NO_RULES
+next (at.Typed x) line.End = at.Ended x NO_RULES
+next (at.Lines x r) line.End = at.Ended x r
 next stage other = stage
 
 -- why the line with this number is refused there: the first that holds
@@ -147,8 +177,10 @@ abbrev pub answer_in : List Placed → Answer → Answer
 answer_in ls (Ok t) = Ok t
 answer_in ls (Err f) = Err (in_input ls f)
 
--- what an input asks for: that this trace be run, by lines of these schedulers in order
+-- what an input asks for: that this trace be run by these rules, by lines of these schedulers in
+-- order
 pub record Recorded : Type 0 where
+  pub rules : Rules
   pub trace : Trace
   pub order : List ℕ
 
@@ -156,9 +188,9 @@ pub record Recorded : Type 0 where
 abbrev pub Asked : Type 0
 Asked = Result Recorded TraceFault
 
-abbrev pub asked_by : List ℕ → Answer → Asked
-asked_by order (Ok t) = Ok (record { trace = t; order = order })
-asked_by order (Err f) = Err f
+abbrev pub asked_by : Rules → List ℕ → Answer → Asked
+asked_by r order (Ok t) = Ok (record { rules = r; trace = t; order = order })
+asked_by r order (Err f) = Err f
 
 abbrev pub words_of : List Placed → WordLines
 words_of ls = map (λ l. l.words) ls
@@ -168,23 +200,15 @@ abbrev pub order_of : List Told → List ℕ
 order_of told = map (λ t. t.own.scheduler) told
 
 -- what lines of operations ask for, by the trace that they are
-abbrev pub asked_for : ℕ → Letter → List Told → Asked
-asked_for n x told =
+abbrev pub asked_for : ℕ → Letter → Rules → List Told → Asked
+asked_for n x r told =
     let ls = trace_lines n x told in
-    asked_by (order_of told) (answer_in ls (trace_of n (words_of ls)))
+    asked_by r (order_of told) (answer_in ls (trace_of n (words_of ls)))
 
--- the letter of an input that has come to its end
-abbrev pub ended_letter : Stage → Option Letter
-ended_letter (at.Ended x) = Some x
-ended_letter stage = None
-
--- what all lines ask for, by that
-abbrev pub asked_if : ℕ → List Told → Option Letter → Asked
-asked_if n told (Some x) = asked_for n x told
-asked_if n told None = Err fault.NoEnd
-
+-- what all lines ask for, by the part that is reached then
 abbrev pub at_end : ℕ → Stage → List Told → Asked
-at_end n stage told = asked_if n told (ended_letter stage)
+at_end n (at.Ended x r) told = asked_for n x r told
+at_end n other told = Err fault.NoEnd
 
 abbrev pub refused_by : Option TraceFault → Asked → Asked
 refused_by None asked = asked

@@ -3,12 +3,10 @@
 use Rattle.std.specs.Prelude.{◌≡◌, ℕ, ◌+◌, ◌≤◌, Bool, true, false, List, [], ◌∷◌, Option, None, Some}
 use Rattle.std.specs.Prelude.{All, length}
 use Rattle.ea_model.specs.Trace.{IsScheduler}
-use Rattle.ea_model.specs.declared.settings.Letter.{Letter}
 use Rattle.ea_trace.specs.Language.{WordLines, lines_of}
 use Rattle.ea_trace.specs.declared.fault.TraceFault.{TraceFault}
 use Rattle.ea_trace.specs.declared.fault.TraceFault.TheVariants as fault
-use Rattle.ea_recorded.specs.Language.{Asked, ended_letter, line_of, next, order_of, read_after}
-use Rattle.ea_recorded.specs.Language.{refusal}
+use Rattle.ea_recorded.specs.Language.{Asked, line_of, next, order_of, read_after, refusal}
 use Rattle.ea_recorded.specs.Told.{AreTold, ToldLines}
 use Rattle.ea_recorded.specs.declared.lines.RecordedLine.{RecordedLine}
 use Rattle.ea_recorded.specs.declared.lines.RecordedLine.TheVariants as line
@@ -39,9 +37,9 @@ is_kept (line.Operation i op) = true
 is_kept other = false
 
 -- the refusal at the end of the text, if `end` is missing
-abbrev pub end_refusal : Option Letter → Option TraceFault
-end_refusal None = Some fault.NoEnd
-end_refusal (Some x) = None
+abbrev pub end_refusal : Stage → Option TraceFault
+end_refusal (at.Ended x r) = None
+end_refusal other = Some fault.NoEnd
 
 -- a line's refusal, or the later one if the line isn't kept
 abbrev pub or_later : Option TraceFault → Bool → Option TraceFault → Option TraceFault
@@ -51,7 +49,7 @@ or_later None false later = later
 
 -- the refusal of the lines from that number on, if no line is kept before it
 abbrev pub early_refusal : ℕ → Stage → ℕ → WordLines → Option TraceFault
-early_refusal n stage number [] = end_refusal (ended_letter stage)
+early_refusal n stage number [] = end_refusal stage
 early_refusal n stage number (ws ∷ left) =
     let l = line_of ws in
     or_later (refusal n number stage l) (is_kept l)

@@ -1,10 +1,12 @@
 //! An input of recorded operations.
 
-use ea_model::{List, Trace};
+use ea_model::{List, Rules, Trace};
 
 /// An input of recorded operations, as it was read.
 #[derive(Drop)]
 pub struct RecordedInput {
+    /// The rules of a node by which it is run.
+    pub rules: Rules,
     /// The trace whose sections are the lines of each scheduler, in their order. Its schedule is
     /// empty.
     pub trace: Trace,

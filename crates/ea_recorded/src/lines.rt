@@ -1,11 +1,12 @@
 //! What one line of recorded operations says, by itself.
 ghost use Rattle.std.specs.Prelude.{◌≡◌};
 ghost use Rattle.ea_model.specs.Words.{words};
-ghost use Rattle.ea_recorded.specs.Language.{addressed, line_of};
+ghost use Rattle.ea_model.specs.declared.settings.TheConstants.{NO_RULES};
+ghost use Rattle.ea_recorded.specs.Language.{addressed, line_of, rules_of, with_rule, with_rules};
 ghost use Rattle.ea_recorded.specs.Told.{IsLineInRange};
 
 use ea_model::words::first_word;
-use ea_model::{Letter, Op};
+use ea_model::{Letter, NO_RULES, Op, Rules};
 use ea_trace::words::scheduler;
 use ea_trace::{Line, read_line};
 
@@ -16,6 +17,8 @@ pub enum RecordedLine {
     Skipped,
     /// `type X`: whose settings hold.
     Letter { letter: Letter },
+    /// `rules RULE ..`: which hold.
+    Rules { rules: Rules },
     /// `N` and an operation, which is scheduler N's. Whether it is there isn't looked at.
     Operation { scheduler: u32, op: Op },
     /// `end`: nothing but lines that are skipped may follow.
@@ -29,10 +32,12 @@ pub enum RecordedLine {
 pub enum Stage {
     /// Before the `type` line.
     Start,
-    /// Among the operations, which are of this letter.
-    Lines { letter: Letter },
+    /// Directly after it: the operations are of this letter, and a `rules` line may stand.
+    Typed { letter: Letter },
+    /// Among the operations, which are run by these rules.
+    Lines { letter: Letter, rules: Rules },
     /// After `end`.
-    Ended { letter: Letter },
+    Ended { letter: Letter, rules: Rules },
 }
 
 /// A line of an operation: its number, from 1, and whose operation it is.
@@ -43,7 +48,59 @@ pub struct OwnLine {
     pub op: Op,
 }
 
-/// A line that may be a scheduler's number and an operation.
+/// These rules and that of a word, if it is a rule and none of them.
+fn with_rule(rules: Rules, word: &[u8]) -> Option<Rules>
+    ensures { result ≡ with_rule rules word.now }
+{
+    if word == b"powers".as_slice() && !rules.powers {
+        return Some(Rules {
+            powers: true,
+            ..rules
+        });
+    }
+    if word == b"falling".as_slice() && !rules.falling {
+        return Some(Rules {
+            falling: true,
+            ..rules
+        });
+    }
+    if word == b"counter".as_slice() && !rules.counter {
+        return Some(Rules {
+            counter: true,
+            ..rules
+        });
+    }
+    None
+}
+
+/// The rules of the words of a text, if each is a rule and none stands twice.
+fn rules_in(text: &[u8]) -> Option<Rules>
+    ensures { result ≡ with_rules NO_RULES (words text.now) }
+{
+    let mut rules = NO_RULES;
+    let mut rest = text;
+    while let Some((word, after)) = first_word(rest) {
+        rules = with_rule(rules, word)?;
+        rest = after;
+    }
+    Some(rules)
+}
+
+/// A line of rules, by the text after `rules`, which has one word at least.
+fn rules_line(text: &[u8]) -> RecordedLine
+    ensures line { result ≡ rules_of (words text.now) }
+    ensures range { IsLineInRange result }
+{
+    if first_word(text).is_none() {
+        return RecordedLine::Unreadable;
+    }
+    match rules_in(text) {
+        Some(rules) => RecordedLine::Rules { rules },
+        None => RecordedLine::Unreadable,
+    }
+}
+
+/// A line that may be a scheduler's number and an operation, or `rules` and rules.
 fn addressed_line(text: &[u8]) -> RecordedLine
     ensures line { result ≡ addressed (words text.now) }
     ensures range { IsLineInRange result }
@@ -51,6 +108,9 @@ fn addressed_line(text: &[u8]) -> RecordedLine
     let Some((word, rest)) = first_word(text) else {
         return RecordedLine::Unreadable;
     };
+    if word == b"rules".as_slice() {
+        return rules_line(rest);
+    }
     let Some(scheduler) = scheduler(word) else {
         return RecordedLine::Unreadable;
     };

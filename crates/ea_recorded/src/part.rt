@@ -23,6 +23,7 @@ impl Part for RecordedPart {
 
     fn text_of(&self, alloc: Global, config: Config, input: &[u8]) -> Result<List<u8>, Fault> {
         let read = read_recorded(alloc, input, config.schedulers)?;
+        let config = config.by_rules(read.rules);
         let outcome = run_in_order(alloc, config, &read.trace, read.order.as_slice())?;
         Ok(print(alloc, &outcome)?)
     }

@@ -17,7 +17,7 @@ use crate::input::RecordedInput;
 use crate::lines::{OwnLine, RecordedLine, Stage, read_own};
 use crate::sections::trace_of_lines;
 use ea_model::words::first_line;
-use ea_model::{Letter, List, OutOfMemory};
+use ea_model::{List, NO_RULES, OutOfMemory};
 use ea_trace::{TraceFault, gives_outside, is_nobody};
 use std::alloc::Global;
 
@@ -26,19 +26,18 @@ fn next(stage: Stage, line: RecordedLine) -> Stage
     ensures { result ≡ language.next stage line }
 {
     match (stage, line) {
-        (Stage::Start, RecordedLine::Letter { letter }) => Stage::Lines { letter },
-        (Stage::Lines { letter }, RecordedLine::End) => Stage::Ended { letter },
+        (Stage::Start, RecordedLine::Letter { letter }) => Stage::Typed { letter },
+        (Stage::Typed { letter }, RecordedLine::Rules { rules }) => Stage::Lines { letter, rules },
+        (Stage::Typed { letter }, RecordedLine::Operation { .. }) => Stage::Lines {
+            letter,
+            rules: NO_RULES,
+        },
+        (Stage::Typed { letter }, RecordedLine::End) => Stage::Ended {
+            letter,
+            rules: NO_RULES,
+        },
+        (Stage::Lines { letter, rules }, RecordedLine::End) => Stage::Ended { letter, rules },
         _ => stage,
-    }
-}
-
-/// The letter of an input that has come to its end.
-fn ended_letter(stage: Stage) -> Option<Letter>
-    ensures { result ≡ language.ended_letter stage }
-{
-    match stage {
-        Stage::Ended { letter } => Some(letter),
-        Stage::Start | Stage::Lines { .. } => None,
     }
 }
 
@@ -50,8 +49,9 @@ fn may_stand(stage: Stage, line: RecordedLine) -> bool
         (stage, line),
         (_, RecordedLine::Skipped)
             | (Stage::Start, RecordedLine::Letter { .. })
+            | (Stage::Typed { .. }, RecordedLine::Rules { .. })
             | (
-                Stage::Lines { .. },
+                Stage::Typed { .. } | Stage::Lines { .. },
                 RecordedLine::Operation { .. } | RecordedLine::End
             )
     )
@@ -175,12 +175,16 @@ impl Reading {
         ensures order { IfOk result (λ i. All (IsScheduler self.schedulers) i.order.items) }
         ensures early { IfSome (early_left self []) (λ f. result ≡ Err f) }
     {
-        let Some(letter) = ended_letter(self.stage) else {
+        let Stage::Ended { letter, rules } = self.stage else {
             return Err(TraceFault::NoEnd);
         };
         let trace = trace_of_lines(alloc, self.schedulers, letter, &self.lines)?;
         let order = order_of(alloc, &self.lines)?;
-        Ok(RecordedInput { trace, order })
+        Ok(RecordedInput {
+            rules,
+            trace,
+            order,
+        })
     }
 }
 

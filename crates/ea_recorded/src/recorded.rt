@@ -25,10 +25,11 @@ pub fn run_recorded<S: Source, O: Sink, E: Sink>(
     requires { length words.now < 2 ^ 32 }
 
     // At status 0 the text is that of the trace whose sections are the lines of each scheduler in
-    // their order, which is valid, after exactly these steps: those of the scheduler of the first
-    // line until its log has grown, then those of the second line's, up to the last one, and then
-    // those of each scheduler until it has ended. And at every moment of every list of steps of
-    // each valid trace under such words the machine keeps its protocol.
+    // their order, which is valid, by the rules of the input's `rules` line, or by none, after
+    // exactly these steps: those of the scheduler of the first line until its log has grown, then
+    // those of the second line's, up to the last one, and then those of each scheduler until it has
+    // ended. And at every moment of every list of steps of each valid trace under such words, by
+    // whatever rules, the machine keeps its protocol.
     ensures { Answered recorded_traces words.now (end_of S.left S.faults source.old source.new)
         (end_of O.taken O.faults out.old out.new) (end_of E.taken E.faults err.old err.new) result }
 {

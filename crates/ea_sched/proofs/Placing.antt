@@ -35,8 +35,8 @@ use Rattle.ea_machine.specs.Placements.{chosen_by, created, created_by, fetched}
 use Rattle.ea_machine.specs.Searches.{Search, fits, goes_on, looked_in, next_number, passed}
 use Rattle.ea_machine.specs.Searches.{with_counted}
 use Rattle.ea_machine.specs.Placements.{holding, making, new_carrier, new_carrier_by, placed_by}
-use Rattle.ea_machine.specs.Placements.{placed_in_choice, saw_by, search_if, search_on, searched}
-use Rattle.ea_machine.specs.Placements.{searched_by, seek, seek_by, spot_of_place, stands}
+use Rattle.ea_machine.specs.Placements.{placed_in_choice, refills, saw_by, search_if, search_on}
+use Rattle.ea_machine.specs.Placements.{searched, searched_by, seek, seek_by, spot_of_place, stands}
 use Rattle.ea_machine.specs.Releases.{routed}
 use Rattle.ea_machine.specs.Rows.{Saw, Won}
 use Rattle.ea_machine.specs.Setup.{Setup, greatest_number, migration}
@@ -180,10 +180,15 @@ module _ (e : Setup) (me : ℕ) (on : migration e ≡ true) where
       onward-skip other = ap (λ b. onward e me (saw b)) other
           ∙ onward-search (passed (greatest_number e) a.lists at (with_counted w part) w) a
 
+-- the block has a carrier of its own
+pub seek-alone : (e : Setup) (me : ℕ) (a : Actor) (ask : Ask)
+    → is_alone a.instance ask.need ≡ true → seek e me ask a ≡ new_carrier e me ask 0 (refills a)
+seek-alone e me a ask alone = ap (seek_by e me ask a) alone
+
 -- nothing is chosen among the employed carriers
 pub seek-beyond : (e : Setup) (me : ℕ) (a : Actor) (ask : Ask)
     → is_alone a.instance ask.need ≡ false → chosen_spot a.instance ask.need ≡ None
-    → seek e me ask a ≡ search_if e me ask a (migration e)
+    → seek e me ask a ≡ search_if e me ask (refills a) (migration e)
 seek-beyond e me a ask shared none =
     ap (seek_by e me ask a) shared ∙ ap (chosen_by e me ask a) none
 

@@ -38,7 +38,7 @@ module _ (e : Setup) (me : ℕ) where
 
   -- it isn't to be deallocated: it is abandoned, if that is due
   pub kept-by : (due : Bool) (x : Content) (g : Gone) (a : Actor) → is_vacant x ≡ false
-      → is_due e.settings a.instance.contents x ≡ due
+      → is_due e.settings a.instance.count a.instance.contents x ≡ due
       → lightened e me (is_vacant x) x g a ≡ abandoned_if due x g a
   kept-by due x g a keeps is = ap (λ b. lightened e me b x g a) keeps
       ∙ ap (λ b. abandoned_if b x g a) is
@@ -96,15 +96,15 @@ module _ (e : Setup) (me : ℕ) (hand : Named) (gone g : Gone) (a : Actor) (i : 
         ∙ sym (ap (λ b. lightened e me b y g (record a { instance = i })) (vacant-is y q ∙ vacant))
         ∙ release-by y q
 
-    pub due-released : is_due e.settings i.contents y ≡ true
+    pub due-released : is_due e.settings i.count i.contents y ≡ true
         → goes_on (Abandoning y) g (record a { instance = j }) ≡ release_here e me hand gone a
     due-released due = ap (goes_on (Abandoning y) g) dismissed-is
         ∙ sym (kept-by e me true y g (record a { instance = i })
-        (due-stays e.settings i.contents y due) due)
+        (due-stays e.settings i.count i.contents y due) due)
         ∙ release-by y q
 
   pub stays-released : (x : Content) → found ≡ Some x → has_vacant n (employed i) ≡ false
-      → is_due e.settings i.contents x ≡ false
+      → is_due e.settings i.count i.contents x ≡ false
       → ends g (record a { instance = i }) ≡ release_here e me hand gone a
   stays-released x q keeps due =
       sym (kept-by e me false x g (record a { instance = i }) (vacant-is x q ∙ keeps) due)

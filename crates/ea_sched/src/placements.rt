@@ -249,6 +249,7 @@ impl<'t> Scheduler<'t> {
         ensures same { IsSame self.old self.new }
     {
         if self.instance.is_alone(ask.need) {
+            self.instance.refill();
             return self.seek_new(alloc, ask, true, 0);
         }
         match self.instance.try_alloc(ask.need, ask.name) {
@@ -256,7 +257,10 @@ impl<'t> Scheduler<'t> {
                 self.placed(ask, place);
                 Ok(())
             }
-            None => self.seek_beyond(alloc, ask),
+            None => {
+                self.instance.refill();
+                self.seek_beyond(alloc, ask)
+            }
         }
     }
 }

@@ -39,20 +39,22 @@ impl<'t> Scheduler<'t> {
     /// A try to make the pooled carrier of the block busy: if it is won, the block is released in
     /// it.
     pub(crate) fn busy_try<S: Shared<Content = Mbc>>(
-        &self,
+        &mut self,
         shared: &mut S,
         hand: Named,
         seen: OwnerWord,
         gone: Gone,
     ) -> Turned
-        requires starts { StartsRoute (route.Trying hand seen) gone self.now (S.told shared.old) }
+        requires starts { StartsRoute (route.Trying hand seen) gone self.old (S.told shared.old) }
         ensures stays { S.stays shared.old shared.new }
-        ensures row { TurnedRow (route.Trying hand seen) gone self.now self.now result
+        ensures same { IsSame self.old self.new }
+        ensures row { TurnedRow (route.Trying hand seen) gone self.old self.new result
             (S.told shared.old) (S.told shared.new) }
     {
         match shared.busy_try(self.number, hand.spot.carrier, seen) {
             Tried::Won { mut content } => {
                 content.release(hand.spot.offset);
+                self.instance.lower_count();
                 let content = Held::multi(content);
                 let gone = first_gone(gone, Gone::Here);
                 let route = Some(Route::Settling { content });

@@ -42,6 +42,10 @@ use Rattle.ea_machine.specs.Walks.{worked_off}
 use Rattle.ea_sound.specs.Here.{Here}
 use Rattle.ea_sound.specs.Leaves.{LeavesRoute, LeavesSettled, Shows}
 use Rattle.ea_sound.specs.Moments.{at}
+use Rattle.ea_model.specs.declared.units.TheConstants.{RELEASED_COUNT}
+use Rattle.ea_model.specs.Instance.{lowered}
+use Rattle.ea_machine.specs.Placements.{refills}
+use Rattle.ea_model.specs.Content.{released}
 
 -- the moves that what is kept is closed under
 pub record Closed (e : Setup) (s : Shared) (me : ℕ) (P : Actor → Type 0) : Type 0 where
@@ -68,6 +72,9 @@ pub record Closed (e : Setup) (s : Shared) (me : ℕ) (P : Actor → Type 0) : T
       → P (at Begin a) → P (at (Routed (Looking h) y g) (let_go h.name a))
   pub log : (x : Entry) (a : Actor) → P (at Begin a) → P (logged x a)
   pub lists : (l : Lists) (a : Actor) → a.stage ≢ Ready → P a → P (record a { lists = l })
+  pub lower : (n : ℕ) (a : Actor) → a.stage ≢ Ready → P a
+      → P (record a { instance = lowered n a.instance })
+  pub refill : (a : Actor) → a.stage ≢ Ready → P a → P (refills a)
 
 -- and those of a walk
 pub record ClosedWalk (P : Actor → Type 0) : Type 0 where
@@ -231,7 +238,12 @@ module _ (e : Setup) (w : State) (s : Shared) (me : ℕ) (P : Actor → Type 0) 
 
     tried-holds : (h : Named) (seen : OwnerWord) (y : Why) (g : Gone) (a : Actor) (r : Answer)
         → LeavesRoute e w s me P y g a (Trying h seen) r → Holds y a.passed (tried h g a r)
-    tried-holds h seen y g a (Won x) l = (l, refl)
+    tried-holds h seen y g a (Won x) l = (
+      c.lower RELEASED_COUNT
+          (at (Routed (Settling (released x h.spot.offset)) y (first_gone g HereGone)) a)
+          (λ q. absurd cc) l,
+      refl,
+    )
     tried-holds h seen y g a (Lost v) l = forwarded-holds h y g a v l.0 l.1
     tried-holds h seen y g a Done l = absurd l
     tried-holds h seen y g a (Head n) l = absurd l

@@ -179,7 +179,8 @@ module _ (c : Config) (t : Trace) (valid : IsValidConfig c)
           -- the word that was seen can be coded
           pub try-seen : (g : ℕ) × (seen ≡ word.Pooled me g) × IsLargest g
           try-seen =
-              let s = subst (IsSteadyStage e me a.instance.contents) now (steady me).route in
+              let s = subst (IsSteadyStage e me a.instance.count a.instance.contents) now
+              (steady me).route in
               let (g, q) = s.0 in
               (g, q, (subst (IsShown e) q s.1).1)
 
@@ -286,7 +287,8 @@ module _ (c : Config) (t : Trace) (valid : IsValidConfig c)
           × IsLargest g
       fetch-seen =
           let (i, g, q, room) = (fits (Fetching ask n part seen) now).4 in
-          let s = subst (IsSteadyStage e me a.instance.contents) now (steady me).route in
+          let s = subst (IsSteadyStage e me a.instance.count a.instance.contents) now
+          (steady me).route in
           let shown = subst (IsShown e) q s in
           (i, g, q, shown.0, shown.1)
 

@@ -36,7 +36,7 @@ use Rattle.ea_sound.specs.Here.{Here}
 use Rattle.ea_sound.specs.Blocks.{employed_sum, spot_at}
 use Rattle.ea_sound.specs.Moments.{at, with_actor}
 use Rattle.ea_sound.specs.Rule.{Belongs, Kept, Standing, of_owner}
-use Rattle.ea_sound.proofs.StillMoves.{lists-goes}
+use Rattle.ea_sound.proofs.StillMoves.{lists-goes, lower-goes, refill-goes}
 use Rattle.ea_sound.proofs.Assembly.{Closed}
 use Rattle.ea_sound.proofs.Alike.{Alike, lies-with}
 use Rattle.ea_sound.proofs.BlockWeights.{block-rising, only_at-itself, sum-released}
@@ -49,6 +49,10 @@ use Rattle.ea_sound.proofs.OwnEntries.{owner-has, somewhere-hand, this}
 use Rattle.ea_sound.proofs.StillMoves.{Fewer, Keeps, clear-goes, goes-alike, hand-goes, log-goes}
 use Rattle.ea_sound.proofs.StillMoves.{push-goes, send-goes, try-goes, why-goes}
 use Rattle.ea_sound.proofs.Totals.{put-here}
+use Rattle.ea_sound.proofs.Counts.{lessened-most}
+use Rattle.ea_model.specs.Instance.{has_content}
+use Rattle.ea_model.specs.declared.units.TheConstants.{RELEASED_COUNT}
+use Rattle.ea_model.specs.Settings.{most_count}
 
 -- a content that is found is laid out, as its kind is
 found-laid : (i : Instance) (n : ℕ) (c : Content) → IsOrderly i
@@ -85,6 +89,7 @@ module _ (e : Setup) (w : State) (s : Shared) (me : ℕ) (is : is_scheduler e me
             number = stands.number;
             first = stands.first;
             end = stands.end;
+            count = stands.count;
             order = dismissing-IsOrderly a.instance x.number stands.order;
           };
           nobody = λ none. absurd (true≢false (sym is ∙ none));
@@ -167,6 +172,8 @@ module _ (e : Setup) (w : State) (s : Shared) (me : ℕ) (is : is_scheduler e me
           number = (released-lie.instance is).number;
           first = (released-lie.instance is).first;
           end = (released-lie.instance is).end;
+          count = lessened-most (has_content h.spot.carrier a.instance.contents) RELEASED_COUNT
+              a.instance.count (most_count e.settings) (released-lie.instance is).count;
           order = releasing-IsOrderly a.instance h.spot (released-lie.instance is).order;
         };
         nobody = λ none. absurd (true≢false (sym is ∙ none));
@@ -246,6 +253,7 @@ module _ (e : Setup) (w : State) (s : Shared) (me : ℕ) (is : is_scheduler e me
           number = (dropped-lie.instance is).number;
           first = (dropped-lie.instance is).first;
           end = (dropped-lie.instance is).end;
+          count = (dropped-lie.instance is).count;
           order = disowning-IsOrderly a.instance x.number order;
         };
         nobody = λ none. absurd (true≢false (sym is ∙ none));
@@ -277,4 +285,6 @@ module _ (e : Setup) (w : State) (s : Shared) (me : ℕ) (is : is_scheduler e me
     hand = hand-goes e w s me is P keeps;
     log = log-goes e w s me is P keeps;
     lists = lists-goes e w s me is P keeps;
+    lower = lower-goes e w s me is P keeps;
+    refill = refill-goes e w s me is P keeps;
   }

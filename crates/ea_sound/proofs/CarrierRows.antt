@@ -155,6 +155,7 @@ module _ (e : Setup) (w : State) (me : ℕ) (is : is_scheduler e me ≡ true) (k
         number = stands.number;
         first = stands.first;
         end = stands.end;
+        count = stands.count;
         order = employing-IsOrderly old.instance stands.order x fetched_new
             (pooled-laid e w k c i g x word);
       };

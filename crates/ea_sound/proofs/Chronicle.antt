@@ -58,10 +58,15 @@ use Rattle.ea_sound.specs.Names.{to_make}
 use Rattle.ea_sound.proofs.HandedNames.{NeverGiven, never-other}
 use Rattle.ea_sound.proofs.SearchLists.{count-snoc, sights-snoc}
 use Rattle.ea_sound.proofs.TurnLists.{longer, run-since}
+use Rattle.ea_machine.specs.Placements.{refills}
 
 -- b has the log, the operations left, the instance and the held names of a
 abbrev pub IsSame : Actor → Actor → Type 0
 IsSame a b = (b.log ≡ a.log) × (b.todo ≡ a.todo) × (b.instance ≡ a.instance) × (b.held ≡ a.held)
+
+-- so it is but for the count, which is as great as can be
+abbrev pub IsRefilled : Actor → Actor → Type 0
+IsRefilled a b = IsSame (refills a) b
 
 -- the begin of its operation was over in a turn of L, nothing was to be chosen then, it was as R
 -- says, and what it saw since then, with each of its steps, is as P says, by the lists that it had
@@ -88,7 +93,7 @@ pub record Searches (e : Setup) (L : List ℕ) (s : ℕ) (a : Actor) (ask : Ask)
   pub on : migration e ≡ true
   pub small : ask.need ≤ e.settings.sbct
   pub goes : goes_on part ≡ true
-  pub way : Underway e L s ask.need (λ b. IsSame b a)
+  pub way : Underway e L s ask.need (λ b. IsRefilled b a)
       (CameTo e ask.need (record { lists = a.lists; at = at; part = part }))
 
 -- the last sight showed the word that is tried
@@ -105,7 +110,7 @@ pub record Fetches (e : Setup) (L : List ℕ) (s : ℕ) (a : Actor) (ask : Ask) 
   pub goes : goes_on old ≡ true
   pub counts : part ≡ with_counted seen old
   pub fit : fits ask.need seen ≡ true
-  pub way : Underway e L s ask.need (λ b. IsSame b a)
+  pub way : Underway e L s ask.need (λ b. IsRefilled b a)
       (AndShown e ask.need (record { lists = a.lists; at = at; part = old }) seen)
 
 -- the old block that an ask may have was held when the operation itself began
@@ -294,7 +299,7 @@ asked-longer e L s j need log h = record {
 }
 
 pub way-asked : (e : Setup) (L : List ℕ) (s need : ℕ) (a : Actor) (P : Lists → List Sight → Type 0)
-    → Underway e L s need (λ b. IsSame b a) P → HasAsked e L s need a.log
+    → Underway e L s need (λ b. IsRefilled b a) P → HasAsked e L s need a.log
 way-asked e L s need a P u = record {
   before = u.before;
   since = u.since;
@@ -459,7 +464,7 @@ module _ (e : Setup) (L : List ℕ) (s j : ℕ) (ne : j ≢ s) where
     on = h.on;
     small = h.small;
     goes = h.goes;
-    way = away ask.need (λ b. IsSame b a) _ h.way;
+    way = away ask.need (λ b. IsRefilled b a) _ h.way;
   }
   other-so_far a (Fetching ask at part seen) h = record {
     of = h.of;
@@ -469,7 +474,7 @@ module _ (e : Setup) (L : List ℕ) (s j : ℕ) (ne : j ≢ s) where
     goes = h.goes;
     counts = h.counts;
     fit = h.fit;
-    way = away ask.need (λ b. IsSame b a) _ h.way;
+    way = away ask.need (λ b. IsRefilled b a) _ h.way;
   }
   other-so_far a (Creating ask p) h = record {
     of = h.of;

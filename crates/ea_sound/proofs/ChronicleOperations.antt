@@ -65,6 +65,10 @@ use Rattle.ea_sound.proofs.Numbered.{scheduler-seat}
 use Rattle.ea_sound.proofs.Operating.{closed-operation}
 use Rattle.ea_sound.proofs.StandingBlocks.{hit-found}
 use Rattle.ea_sound.proofs.Totals.{put-here}
+use Rattle.ea_sound.proofs.StillMoves.{refill-goes}
+use Rattle.ea_sound.proofs.Operating.{refilled-wanted}
+use Rattle.ea_machine.specs.Placements.{refills}
+use Rattle.ea_sound.proofs.StillMoves.{keeps-operation}
 
 module _ (e : Setup) (rules : (L : List ℕ) → Rule e (run e L)) (L : List ℕ) (me : ℕ) where
   abbrev acting : Actor
@@ -130,13 +134,24 @@ module _ (e : Setup) (rules : (L : List ℕ) → Rule e (run e L)) (L : List ℕ
       old-now ask.old want.old,
     )
 
+    -- where nothing is chosen the count is as great as can be
+    abbrev full : Actor
+    full = refills mid
+
+    full-wanted : (ask : Ask) → IsWanted ask → Wants e rules L me full ask
+    full-wanted ask want = refilled-wanted e (run e L) s me is ask mid want
+
+    full-going : InOperation e (run e L) s me (at Begin full)
+    full-going = refill-goes e (run e L) s me is (InOperation e (run e L) s me)
+        (keeps-operation e (run e L) s me is) (at Begin mid) (λ q. absurd cc) going
+
     plan-fine : (ask : Ask) → OfAsk ask acting.todo → IsWanted ask
         → AsksFor mid mid.todo ask.need
         → (ask.need ≤ e.settings.sbct → chosen_spot mid.instance ask.need ≡ None)
         → ((migration e ≡ false) ⊎ (e.settings.sbct < ask.need))
-        → Fine (new_carrier e me ask 0 mid)
+        → Fine (new_carrier e me ask 0 full)
     plan-fine ask o want asks none un =
-        planned-fine e rules L me set is works ask 0 mid (plan mid.instance ask.need) refl k
+        planned-fine e rules L me set is works ask 0 full (plan full.instance ask.need) refl k
         (asked-now ask o want asks)
         (record {
           before = L;
@@ -150,7 +165,7 @@ module _ (e : Setup) (rules : (L : List ℕ) → Rule e (run e L)) (L : List ℕ
           sought = inl (un, refl, refl);
           steps = no-steps;
         })
-        (λ why r. fails e rules L me set is works ask 0 why mid L [] refl (refl, refl, refl, refl)
+        (λ why r. fails e rules L me set is works ask 0 why full L [] refl (refl, refl, refl, refl)
         (subst (OfAsk ask) (sym k.1) o)
         (record {
           begins = ready;
@@ -160,18 +175,19 @@ module _ (e : Setup) (rules : (L : List ℕ) → Rule e (run e L)) (L : List ℕ
           steps = no-steps;
           refused = r;
         }))
-        none want
+        none (full-wanted ask want)
         (λ off p r. (
           AtOnce off ready refl r,
-          (closed-operation e (run e L) s me is).make ask p mid want r off going,
+          (closed-operation e (run e L) s me is).make ask p full (full-wanted ask want) r off
+              full-going,
         ))
 
     no_choice-fine : (ask : Ask) (on : Bool) → migration e ≡ on → OfAsk ask acting.todo
         → IsWanted ask → AsksFor mid mid.todo ask.need → ask.need ≤ e.settings.sbct
-        → chosen_spot mid.instance ask.need ≡ None → Fine (search_if e me ask mid on)
+        → chosen_spot mid.instance ask.need ≡ None → Fine (search_if e me ask full on)
     no_choice-fine ask true m o want asks small c =
-        search-fine e rules L me set is works ask (new_search (greatest_number e) mid.lists) mid k
-        (asked-now ask o want asks) m small want
+        search-fine e rules L me set is works ask (new_search (greatest_number e) mid.lists) full k
+        (asked-now ask o want asks) m small (full-wanted ask want)
         (record {
           before = L;
           since = [];

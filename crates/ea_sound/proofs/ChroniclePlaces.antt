@@ -63,7 +63,7 @@ use Rattle.ea_sound.specs.Leaves.{InOperation, IsFresh, Wanted, making as with_c
 use Rattle.ea_sound.specs.Moments.{at, with_actor}
 use Rattle.ea_sound.proofs.Chronicle.{CameTo}
 use Rattle.ea_sound.proofs.Chronicle.{HasOld, IsOut, LeftBy, OnWay, PushedBy, PushesBy, Sent}
-use Rattle.ea_sound.proofs.Chronicle.{IsOfFirst, IsSame, Outcomes, Placement, Placing, SoFar}
+use Rattle.ea_sound.proofs.Chronicle.{IsOfFirst, IsRefilled, Outcomes, Placement, Placing, SoFar}
 use Rattle.ea_sound.proofs.Chronicle.{Underway, WentTo, failed-is, name_in, outcomes, task-first}
 use Rattle.ea_sound.proofs.ShortRoutes.{Keeps, here-short, keeps-on, route-keeps, route-short}
 use Rattle.ea_sound.proofs.TurnLists.{run-snoc, step-is}
@@ -740,7 +740,7 @@ module _ (e : Setup) (rules : (L : List ℕ) → Rule e (run e L)) (L : List ℕ
 
     -- the fail of an operation that is under way
     pub fails : (ask : Ask) (looked : ℕ) (why : NoCarrier) (b : Actor) (before since : List ℕ)
-        → turn ≡ before ++ me ∷ since → IsSame (begun e before me) b → OfAsk ask b.todo
+        → turn ≡ before ++ me ∷ since → IsRefilled (begun e before me) b → OfAsk ask b.todo
         → FindsNoPlace e before me since ask.need looked why
         → IsNow (logged (failed ask looked why ask.old) b)
         → IsExhausted e L me (failed ask looked why ask.old) ask.need looked why
@@ -760,7 +760,7 @@ module _ (e : Setup) (rules : (L : List ℕ) → Rule e (run e L)) (L : List ℕ
     -- the search goes on, or no number or no word is left
     pub search-fine : (ask : Ask) (x : Search) (b : Actor) → Keeps acting b
         → IsAsking ask → migration e ≡ true → ask.need ≤ e.settings.sbct → IsWanted b ask
-        → Underway e turn me ask.need (λ c. IsSame c b) (CameTo e ask.need x)
+        → Underway e turn me ask.need (λ c. IsRefilled c b) (CameTo e ask.need x)
         → Fine (search_on e me ask x b)
     search-fine ask x b k o on small want u = by (goes_on x.part) refl
       where

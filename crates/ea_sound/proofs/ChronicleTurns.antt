@@ -67,7 +67,8 @@ use Rattle.ea_sound.proofs.Chronicle.{CameTo}
 use Rattle.ea_sound.proofs.Operating.{listed-wanted}
 use Rattle.ea_sound.proofs.StillMoves.{keeps-operation, lists-goes}
 use Rattle.ea_sound.proofs.FetchedFits.{fetched-number, fetched-there}
-use Rattle.ea_sound.proofs.Chronicle.{AndShown, Fetches, IsSame, Searches, SoFar, Takes, Underway}
+use Rattle.ea_sound.proofs.Chronicle.{AndShown, Fetches, IsRefilled, Searches, SoFar}
+use Rattle.ea_sound.proofs.Chronicle.{Takes, Underway}
 use Rattle.ea_sound.proofs.Chronicle.{asked-longer, further, placing-longer, way-asked, LeftBy}
 use Rattle.ea_sound.proofs.Chronicle.{OnWay, WentTo, left-longer, over-longer, pushed-longer}
 use Rattle.ea_sound.proofs.Chronicle.{name_in, held-longer, old-longer, seen-longer, HasOld}
@@ -156,7 +157,7 @@ module _ (e : Setup) (rules : (L : List ℕ) → Rule e (run e L)) (L : List ℕ
 
     -- a scheduler is as now, and what it sees in this turn
     abbrev IsStill : Actor → Type 0
-    IsStill b = IsSame b acting
+    IsStill b = IsRefilled b acting
 
     abbrev saw : List Sight
     saw = sight_if true acting.stage (answered (run e L) me)

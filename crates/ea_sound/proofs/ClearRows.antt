@@ -71,6 +71,7 @@ module _ (e : Setup) (w : State) (me : ℕ) (is : is_scheduler e me ≡ true) (k
           number = stands.number;
           first = stands.first;
           end = stands.end;
+          count = stands.count;
           order = disowning-IsOrderly old.instance c stands.order;
         };
         nobody = λ none. absurd (let t : true ≡ false = sym is ∙ none in cc);

@@ -88,6 +88,7 @@ module _ (e : Setup) (me : ℕ) (i : Instance) (stands : Standing e me i) (need 
       number = stands.number;
       first = stands.first;
       end = stands.end;
+      count = stands.count;
       order = creating-IsOrderly i need p stands.order asked new;
     }
 
@@ -98,5 +99,6 @@ module _ (e : Setup) (me : ℕ) (i : Instance) (stands : Standing e me i) (need 
       number = stands.number;
       first = stands.first;
       end = stands.end;
+      count = stands.count;
       order = creating_single-IsOrderly i need p stands.order asked new name least even;
     }

@@ -61,6 +61,7 @@ use Rattle.ea_sound.proofs.Creations.{plan-birth}
 use Rattle.ea_sound.proofs.ShortRoutes.{route-short, turned-short}
 use Rattle.ea_sound.proofs.TurnLists.{by-turns, ended-or, run-snoc, step-ended, step-mine}
 use Rattle.ea_sound.proofs.TurnLists.{step-other}
+use Rattle.ea_machine.specs.Placements.{refills}
 
 -- a plan counts one carrier more than the instance has created
 abbrev IsPlanned : Actor → Stage Content → Type 0
@@ -159,11 +160,11 @@ module _ (e : Setup) (me : ℕ) where
   chosen-births : (ask : Ask) (a : Actor) (o : Option Spot)
       → creations (chosen_by e me ask a o) ≤ without_one a + 1
   chosen-births ask a (Some spot) = omega (arith, placed-births ask a (Some spot))
-  chosen-births ask a None = search_if-births ask a (migration e)
+  chosen-births ask a None = search_if-births ask (refills a) (migration e)
 
   seek_by-births : (ask : Ask) (a : Actor) (b : Bool)
       → creations (seek_by e me ask a b) ≤ without_one a + 1
-  seek_by-births ask a true = new_carrier-births ask 0 a
+  seek_by-births ask a true = new_carrier-births ask 0 (refills a)
   seek_by-births ask a false = chosen-births ask a (chosen_spot a.instance ask.need)
 
   seek-births : (ask : Ask) (a : Actor) → creations (seek e me ask a) ≤ without_one a + 1

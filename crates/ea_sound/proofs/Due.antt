@@ -1,8 +1,8 @@
--- A carrier that is due is a multiblock carrier that has blocks, and stays due when it comes into
--- the hand.
+-- Where a carrier is due the count is 0, and it is a multiblock carrier that has blocks. It stays
+-- due when it comes into the hand.
 use Rattle.std.proofs.Common.{◌≡◌, ◌≢◌, ℕ, List, ◌∷◌, Bool, true, false, ◌&&◌, refl, sym, ap}
 use Rattle.std.proofs.Common.{◌∙◌, arith}
-use Rattle.std.specs.Prelude.{Option, Some, None, not, sum_by}
+use Rattle.std.specs.Prelude.{Option, Some, None, nat_le, not, sum_by}
 use Rattle.std.proofs.lemmas.Bool.{and_parts, and_right, not-true}
 use Rattle.ea_model.specs.declared.carriers.Kind.{Kind}
 use Rattle.ea_model.specs.declared.carriers.Kind.TheVariants.{Main, Multi, Single}
@@ -30,11 +30,22 @@ module _ (f : Content → ℕ) (x : Content) (cs : List Content) (rising : IsRis
   )
 
 -- what is due is a multiblock carrier that has blocks
-module _ (s : Settings) (cs : List Content) (x : Content) (due : is_due s cs x ≡ true) where
+module _ (s : Settings) (count : ℕ) (cs : List Content) (x : Content)
+    (due : is_due s count cs x ≡ true) where
+  parts : (nat_le count 0 ≡ true) × ((is_multi x.kind && not (is_nil x.blocks)
+      && (is_sparse_carrier s x && are_sparse s cs && has_large_gap s x)) ≡ true)
+  parts = and_parts (nat_le count 0) (is_multi x.kind && not (is_nil x.blocks)
+      && (is_sparse_carrier s x && are_sparse s cs && has_large_gap s x)) due
+
   both : (is_multi x.kind ≡ true) × (not (is_nil x.blocks) ≡ true)
   both = and_parts (is_multi x.kind) (not (is_nil x.blocks)) (and_parts
       (is_multi x.kind && not (is_nil x.blocks))
-      (is_sparse_carrier s x && are_sparse s cs && has_large_gap s x) due).0
+      (is_sparse_carrier s x && are_sparse s cs && has_large_gap s x) parts.1).0
+
+  pub due-count : count ≡ 0
+  due-count = by count parts.0 where
+    by : (n : ℕ) → nat_le n 0 ≡ true → n ≡ 0
+    by n none = grind (arith, none)
 
   pub due-multi : x.kind ≡ Multi
   due-multi = by x.kind refl both.0 where
@@ -51,18 +62,19 @@ module _ (s : Settings) (cs : List Content) (x : Content) (due : is_due s cs x �
   due-stays = and_right (can_go x.kind) (is_nil x.blocks) due-some
 
 -- whether it is due by the units of all
-abbrev due_by : Settings → Content → ℕ → ℕ → Bool
-due_by s x used units = is_multi x.kind && not (is_nil x.blocks)
-    && (is_sparse_carrier s x && is_sparse s used units && has_large_gap s x)
+abbrev due_by : Settings → ℕ → Content → ℕ → ℕ → Bool
+due_by s count x used units = nat_le count 0 && (is_multi x.kind && not (is_nil x.blocks)
+    && (is_sparse_carrier s x && is_sparse s used units && has_large_gap s x))
 
-pub due-in_hand : (s : Settings) (x : Content) (cs : List Content) → IsRising cs
-    → content_of cs x.number ≡ Some x → is_due s cs x ≡ true
-    → is_due s (x ∷ without_content x.number cs) x ≡ true
-due-in_hand s x cs rising there due =
+pub due-in_hand : (s : Settings) (count : ℕ) (x : Content) (cs : List Content) → IsRising cs
+    → content_of cs x.number ≡ Some x → is_due s count cs x ≡ true
+    → is_due s count (x ∷ without_content x.number cs) x ≡ true
+due-in_hand s count x cs rising there due =
     let front = figures (x ∷ without_content x.number cs) in
-    ap (λ used. due_by s x used front.carriers_size)
+    ap (λ used. due_by s count x used front.carriers_size)
     (sum-front (λ c. allocated c.blocks) x cs rising there)
-    ∙ ap (due_by s x (figures cs).blocks_size) (sum-front (λ c. c.units) x cs rising there) ∙ due
+    ∙ ap (due_by s count x (figures cs).blocks_size)
+    (sum-front (λ c. c.units) x cs rising there) ∙ due
 
 -- a multiblock carrier that is found is among those of many blocks
 pub multi-found : (i : Instance) (n : ℕ) (x : Content) → IsOrderly i → x.kind ≡ Multi

@@ -31,17 +31,18 @@ use Rattle.ea_sound.proofs.OtherTurns.{actor-since}
 use Rattle.ea_sound.proofs.SearchTurns.{look-saw}
 use Rattle.ea_sound.proofs.Totals.{put-here}
 use Rattle.ea_sound.proofs.TurnLists.{run-snoc, step-mine, step-shared}
+use Rattle.std.specs.Prelude.{nat_le}
 
 -- what is due has blocks
-due-vacant : (settings : Settings) (xs : List Content) (x : Content)
-    → is_due settings xs x ≡ true → is_vacant x ≡ false
-due-vacant settings xs x due = by (is_multi x.kind) (is_nil x.blocks)
+due-vacant : (settings : Settings) (count : ℕ) (xs : List Content) (x : Content)
+    → is_due settings count xs x ≡ true → is_vacant x ≡ false
+due-vacant settings count xs x due = by (nat_le count 0) (is_multi x.kind) (is_nil x.blocks)
     (is_sparse_carrier settings x && are_sparse settings xs && has_large_gap settings x)
     (can_go x.kind) due
   where
-    by : (multi nil sparse goes : Bool) → (multi && not nil && sparse) ≡ true
+    by : (zero multi nil sparse goes : Bool) → (zero && (multi && not nil && sparse)) ≡ true
         → (goes && nil) ≡ false
-    by multi nil sparse goes due = grind (arith, due)
+    by zero multi nil sparse goes due = grind (arith, due)
 
 -- the row that abandons a carrier puts it into the pool
 abandons : (s : ℕ) (x : Content) (m : Shared)
@@ -76,7 +77,7 @@ module _ (e : Setup) (turns : List ℕ) (s : ℕ) (x : Content)
       ap (λ own. employed_by e s own s h.block h.gone a) same
       ∙ ap (after_release e s h.gone b) h.content
       ∙ ap (λ vacant. lightened e s vacant x now b)
-      (due-vacant e.settings b.instance.contents x h.due)
+      (due-vacant e.settings b.instance.count b.instance.contents x h.due)
       ∙ ap (λ due. abandoned_if due x now b) h.due
 
   -- after the step it is about to abandon the carrier

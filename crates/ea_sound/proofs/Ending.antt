@@ -60,6 +60,7 @@ use Rattle.ea_machine.specs.Tasks.{carried, entry_of, hands_over, later, let_go,
 use Rattle.ea_machine.specs.Walks.{after_route, worked_off}
 use Rattle.ea_sound.proofs.SearchParts.{counted-as_many, new-looks, passed-looks}
 use Rattle.ea_sound.proofs.ShortRoutes.{Same, route-short, some_rows, turned-short}
+use Rattle.ea_machine.specs.Placements.{refills}
 
 module _ (e : Setup) (me : ℕ) where
   -- the work but for the operation and the stage
@@ -172,11 +173,11 @@ module _ (e : Setup) (me : ℕ) where
   chosen-less : (ask : Ask) (a : Actor) (o : Option Spot)
       → actor_rows e (chosen_by e me ask a o) ≤ rest_rows a + 12 + search_rows e
   chosen-less ask a (Some spot) = omega (arith, placed-less ask a (Some spot))
-  chosen-less ask a None = search_if-less ask a (migration e)
+  chosen-less ask a None = search_if-less ask (refills a) (migration e)
 
   seek_by-less : (ask : Ask) (a : Actor) (b : Bool)
       → actor_rows e (seek_by e me ask a b) ≤ rest_rows a + 12 + search_rows e
-  seek_by-less ask a true = omega (arith, new_carrier-less ask 0 a)
+  seek_by-less ask a true = omega (arith, new_carrier-less ask 0 (refills a))
   seek_by-less ask a false = chosen-less ask a (chosen_spot a.instance ask.need)
 
   seek-less : (ask : Ask) (a : Actor)

@@ -52,6 +52,7 @@ use Rattle.ea_sound.proofs.TurnLists.{run-since, step-mine, step-other}
 use Rattle.ea_sound.proofs.SearchTurns.{Next, WonOrLost, count-mine, count-other, fetch-tries}
 use Rattle.ea_sound.proofs.SearchTurns.{look-saw, next, sight-most, sights-mine, sights-most}
 use Rattle.ea_sound.proofs.SearchTurns.{sights-other, tails, won-or_lost}
+use Rattle.ea_machine.specs.Placements.{refills}
 
 -- an operation that asks for a place seeks one
 record Seeks (e : Setup) (s : ℕ) (b : Actor) (need : ℕ) : Type 0 where
@@ -272,6 +273,10 @@ module _ (e : Setup) (rules : (L : List ℕ) → Rule e (run e L)) (before : Lis
   abbrev mid : Actor
   mid = begun e before s
 
+  -- without a choice its count is as great as can be
+  abbrev full : Actor
+  full = refills mid
+
   module _ (begins : IsBegun e (run e before) s) (ask : Ask)
       (none : ask.need ≤ e.settings.sbct → chosen_spot mid.instance ask.need ≡ None) where
     threshold : mid.instance.settings.sbct ≡ e.settings.sbct
@@ -279,26 +284,27 @@ module _ (e : Setup) (rules : (L : List ℕ) → Rule e (run e L)) (before : Lis
 
     -- a block that isn't searched for, and one that is
     unsought : (migration e ≡ false) ⊎ (e.settings.sbct < ask.need)
-        → seek e s ask mid ≡ new_carrier e s ask 0 mid
+        → seek e s ask mid ≡ new_carrier e s ask 0 full
     unsought un = by (is_alone mid.instance ask.need) refl un
       where
         by : (b : Bool) → is_alone mid.instance ask.need ≡ b
             → (migration e ≡ false) ⊎ (e.settings.sbct < ask.need)
-            → seek_by e s ask mid b ≡ new_carrier e s ask 0 mid
+            → seek_by e s ask mid b ≡ new_carrier e s ask 0 full
         by true t un = refl
         by false t (inl off) = ap (chosen_by e s ask mid)
-            (none (let q = threshold in grind (arith, t, q))) ∙ ap (search_if e s ask mid) off
+            (none (let q = threshold in grind (arith, t, q)))
+            ∙ ap (search_if e s ask full) off
         by false t (inr big) = absurd (let q = threshold in
             let l : ask.need ≤ e.settings.sbct = grind (arith, t, q) in omega (arith, big, l))
 
     sought : migration e ≡ true → ask.need ≤ e.settings.sbct
         → seek e s ask mid
-        ≡ search_on e s ask (new_search (greatest_number e) mid.lists) mid
+        ≡ search_on e s ask (new_search (greatest_number e) mid.lists) full
     sought on small =
         let q = threshold in
         let alone : is_alone mid.instance ask.need ≡ false = grind (arith, small, q) in
         ap (seek_by e s ask mid) alone ∙ ap (chosen_by e s ask mid) (none small)
-        ∙ ap (search_if e s ask mid) on
+        ∙ ap (search_if e s ask full) on
 
   fails : (ask : Ask) (since : List ℕ) (looked : ℕ) (why : NoCarrier)
       → itself e s mid mid.todo ≡ seek e s ask mid
@@ -317,21 +323,21 @@ module _ (e : Setup) (rules : (L : List ℕ) → Rule e (run e L)) (before : Lis
           ⊎ IsSought e mid.lists ask.need looked (seen_since e before s since)
           → log_after e (before ++ s ∷ since) s ≡ mid.log ++ failed ask looked why ask.old ∷ []
       by (inl u) =
-          let q = now (logged (failed ask 0 why ask.old) mid)
-          (unsought f.begins ask f.none u.0 ∙ ap (new_carrier_by e s ask 0 mid) f.refused) in
+          let q = now (logged (failed ask 0 why ask.old) full)
+          (unsought f.begins ask f.none u.0 ∙ ap (new_carrier_by e s ask 0 full) f.refused) in
           let none : Search = record { lists = no_lists; at = 0; part = Pool 0 looked } in
           sym (ap (λ (w : State). (w.actors s).log) all)
-          ∙ goes e s mid ask none why f.refused refl since (run e (before ++ s ∷ []))
+          ∙ goes e s full ask none why f.refused refl since (run e (before ++ s ∷ []))
           (Failed (ap (λ (a : Actor). a.log) q
           ∙ ap (λ k. mid.log ++ failed ask k why ask.old ∷ []) (sym u.2)) u.1) f.steps
       by (inr h) =
           let (last, saw, over, counts) = h.2 in
           let first = new_search (greatest_number e) mid.lists in
           sym (ap (λ (w : State). (w.actors s).log) all)
-          ∙ goes e s mid ask last why f.refused over since (run e (before ++ s ∷ []))
-          (waits e s mid ask last why f.refused over first mid (search_on e s ask first mid)
+          ∙ goes e s full ask last why f.refused over since (run e (before ++ s ∷ []))
+          (waits e s full ask last why f.refused over first full (search_on e s ask first full)
           (actor_after e (before ++ s ∷ []) s) (seen_since e before s since) (refl, refl)
-          (found e s mid ask last why f.refused over first mid (refl, refl))
+          (found e s full ask last why f.refused over first full (refl, refl))
           (now _ (sought f.begins ask f.none h.0 h.1)) saw) f.steps
           ∙ ap (λ k. mid.log ++ failed ask k why ask.old ∷ []) (sym counts)
 

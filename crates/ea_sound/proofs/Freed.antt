@@ -57,7 +57,7 @@ module _ (setup : Setup) (me : ℕ) (off : migration setup ≡ false) (why : Why
           ≡ done (deallocated_if vacant i x.number)
       lightens true = leaves
       lightens false = ap (λ due. comes (abandoned_if due x Here b))
-          (due-unmoved setup i.contents x off)
+          (due-unmoved setup i.count i.contents x off)
 
     by-content : (i : Instance) (n : ℕ) → owner_of n ≡ me → (o : Option Content)
         → content_of (employed i) n ≡ o

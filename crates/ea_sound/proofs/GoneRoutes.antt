@@ -162,7 +162,7 @@ module _ (e : Setup) (me : ℕ) where
   lightened-bare true x g a =
       leaving-bare (owner_of x.number == me) (migration e) x g (dismissed x.number a)
   lightened-bare false x g a =
-      abandoned-bare (is_due e.settings a.instance.contents x) x g a
+      abandoned-bare (is_due e.settings a.instance.count a.instance.contents x) x g a
 
   after-bare : (g : Gone) (a : Actor) (o : Option Content)
       → IsBare (after_release e me g a o).route
@@ -198,7 +198,7 @@ module _ (e : Setup) (me : ℕ) where
   lightened-gone true x g a =
       leaving-gone (owner_of x.number == me) (migration e) x g (dismissed x.number a)
   lightened-gone false x g a =
-      abandoned-gone (is_due e.settings a.instance.contents x) x g a
+      abandoned-gone (is_due e.settings a.instance.count a.instance.contents x) x g a
 
   after-queued : (g : Gone) (a : Actor) (o : Option Content)
       → IsQueuedBy g (after_release e me g a o)

@@ -78,6 +78,7 @@ use Rattle.ea_sound.proofs.Numbered.{scheduler-seat}
 use Rattle.ea_sound.proofs.ShortRoutes.{route-short, turned-short}
 use Rattle.ea_sound.proofs.TurnLists.{by-turns, ended-or, longer, run-snoc, step-ended, step-mine}
 use Rattle.ea_sound.proofs.TurnLists.{step-other}
+use Rattle.ea_machine.specs.Placements.{refills}
 
 -- a pooled carrier by its word
 pooled-place : (p : CarrierAt) (i l : ℕ) → word_of p ≡ word.Pooled i l
@@ -160,7 +161,8 @@ module _ (e : Setup) (w : State) (me : ℕ) where
       → TellsNext (lightened e me vacant x g b).route
   lightened-tells true x g b =
       leaving-tells (owner_of x.number == me) (migration e) x g (dismissed x.number b)
-  lightened-tells false x g b = abandoned-tells (is_due e.settings b.instance.contents x) x g b
+  lightened-tells false x g b =
+      abandoned-tells (is_due e.settings b.instance.count b.instance.contents x) x g b
 
   after_release-tells : (g : Gone) (b : Actor) (o : Option Content)
       → TellsNext (after_release e me g b o).route
@@ -244,10 +246,10 @@ module _ (e : Setup) (w : State) (me : ℕ) where
 
     chosen-tells : (b : Actor) (o : Option Spot) → Tells (chosen_by e me ask b o)
     chosen-tells b (Some spot) = placed-tells b (Some spot)
-    chosen-tells b None = search_if-tells b (migration e)
+    chosen-tells b None = search_if-tells (refills b) (migration e)
 
     seek_by-tells : (b : Actor) (alone : Bool) → Tells (seek_by e me ask b alone)
-    seek_by-tells b true = new-tells 0 b
+    seek_by-tells b true = new-tells 0 (refills b)
     seek_by-tells b false = chosen-tells b (chosen_spot b.instance ask.need)
 
     seek-tells : (b : Actor) → Tells (seek e me ask b)

@@ -43,6 +43,7 @@ use Rattle.ea_sound.proofs.Numbered.{scheduler-seat}
 use Rattle.ea_sound.proofs.OtherRows.{tried-there}
 use Rattle.ea_sound.proofs.RowLeaves.{creating-bare, no_first}
 use Rattle.ea_sound.proofs.Weights.{one-itself}
+use Rattle.std.specs.Prelude.{List}
 
 fits-large : (need i largest : ℕ) → need ≤ largest → fits need (word.Pooled i largest) ≡ true
 fits-large need i largest large = grind (arith, large)
@@ -55,12 +56,14 @@ is_many Single multi = absurd cc
 -- the multiblock carrier in the hand is in front of the others
 front-due : (s : Setup) (x : Content) (a : Actor) (why : Why) (gone : Gone) → x.kind ≡ Multi
     → a.stage ≡ Routed (Abandoning x) why gone
-    → is_due s.settings (x ∷ a.instance.contents) x ≡ true
-    → is_due s.settings (employed_multis a) x ≡ true
+    → is_due s.settings a.instance.count (x ∷ a.instance.contents) x ≡ true
+    → is_due s.settings a.instance.count (employed_multis a) x ≡ true
 front-due s x a why gone multi now due =
     let many : Content → Bool = λ y. not (is_single y.kind) in
-    ap (λ stage. is_due s.settings (filter many (leaving_at stage) ++ a.instance.contents) x) now
-    ∙ cond_both (many x) (x ∷ []) [] (λ xs. is_due s.settings (xs ++ a.instance.contents) x ≡ true)
+    let is : List Content → Bool = λ xs.
+    is_due s.settings a.instance.count (xs ++ a.instance.contents) x in
+    ap (λ stage. is (filter many (leaving_at stage))) now
+    ∙ cond_both (many x) (x ∷ []) [] (λ xs. is xs ≡ true)
     (λ _. due) (λ one. absurd (true≢false (sym (is_many x.kind multi) ∙ one)))
 
 module _ (e : Setup) (w : State) (rule : Rule e w) (steady : AreSteady e w) (me : ℕ) where
@@ -74,8 +77,9 @@ module _ (e : Setup) (w : State) (rule : Rule e w) (steady : AreSteady e w) (me 
   fits-at stage now = subst (Fits e w me a) now (rule.present.fits me)
 
   steady-at : (stage : Stage Content) → a.stage ≡ stage
-      → IsSteadyStage e me a.instance.contents stage
-  steady-at stage now = subst (IsSteadyStage e me a.instance.contents) now (steady me).route
+      → IsSteadyStage e me a.instance.count a.instance.contents stage
+  steady-at stage now =
+      subst (IsSteadyStage e me a.instance.count a.instance.contents) now (steady me).route
 
   is-one : (stage : Stage Content) → a.stage ≡ stage → stage ≢ Ended → is_scheduler e me ≡ true
   is-one stage now works = working-scheduler e w k me (λ z. works (sym now ∙ z))

@@ -23,6 +23,7 @@ pub mod Created
 pub mod Staying
 pub mod FewBlocks
 pub mod Due
+pub mod Counts
 pub mod MainCarriers
 pub mod LargestGaps
 -- One moment: what follows of a state from what every moment keeps.
@@ -153,6 +154,7 @@ pub mod Completing
 -- Which carriers are created, and which abandoned.
 pub mod CreationsLeft
 pub mod DueCarriers
+pub mod HeldBack
 -- The rule at every moment, and what calls ask for in each reached state.
 pub mod RuleRuns
 pub mod Asked

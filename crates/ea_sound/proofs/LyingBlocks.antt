@@ -218,7 +218,7 @@ module _ (e : Setup) (me : ℕ) (n : ℕ) (p : Place) (h : Named) (other : h.nam
           leaving-lies (owner_of x.number == me) (migration e) g (vacant-nil x vacant)
       lightened-lies false g full =
           subst (λ due. LiesWith n p (abandoned_if due x g after).actor.instance)
-          (sym (due-unmoved e j.contents x off)) released-lies
+          (sym (due-unmoved e j.count j.contents x off)) released-lies
 
     after-lies : (o : Option Content) → content_of (employed j) h.spot.carrier ≡ o
         → LiesWith n p (after_release e me Open after o).actor.instance

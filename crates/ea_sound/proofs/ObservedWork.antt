@@ -49,6 +49,7 @@ use Rattle.ea_machine.specs.Tasks.{carried_by, hands_over, let_go, task_over}
 use Rattle.ea_machine.specs.Walks.{after_route, begun, with_passed, worked_off}
 use Rattle.ea_sound.specs.Reported.{AsksInfo}
 use Rattle.ea_sound.proofs.ShortRoutes.{route-short, turned-short}
+use Rattle.ea_machine.specs.Placements.{refills}
 
 module _ (e : Setup) (me : ℕ) where
   abbrev pub IsStill : Actor → Actor → Type 0
@@ -120,11 +121,11 @@ module _ (e : Setup) (me : ℕ) where
   chosen-kept : (ask : Ask) (a : Actor) (o : Option Spot)
       → IsStill a (chosen_by e me ask a o)
   chosen-kept ask a (Some spot) = placed-kept ask a (Some spot)
-  chosen-kept ask a None = search_if-kept ask a (migration e)
+  chosen-kept ask a None = search_if-kept ask (refills a) (migration e)
 
   seek_by-kept : (ask : Ask) (a : Actor) (alone : Bool)
       → IsStill a (seek_by e me ask a alone)
-  seek_by-kept ask a true = new-kept ask 0 a
+  seek_by-kept ask a true = new-kept ask 0 (refills a)
   seek_by-kept ask a false = chosen-kept ask a (chosen_spot a.instance ask.need)
 
   seek-kept : (ask : Ask) (a : Actor) → IsStill a (seek e me ask a)

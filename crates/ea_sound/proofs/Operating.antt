@@ -39,6 +39,7 @@ use Rattle.ea_sound.proofs.Stepping.{after-holds, begun-walk}
 use Rattle.ea_sound.proofs.StillMoves.{keeps-operation, keeps-walk, log-goes}
 use Rattle.ea_sound.proofs.Totals.{put-here}
 use Rattle.ea_sound.proofs.Working.{ClosedOperation}
+use Rattle.ea_machine.specs.Placements.{refills}
 
 module _ (e : Setup) (w : State) (s : Shared) (me : ℕ) (is : is_scheduler e me ≡ true) where
   abbrev G : Actor → Type 0
@@ -68,6 +69,20 @@ module _ (e : Setup) (w : State) (s : Shared) (me : ℕ) (is : is_scheduler e me
       arith,
       want.fresh,
       allocated-with e w s me is (only ask.name) (at Begin a) (at Begin (record a { lists = l })),
+    );
+    least = want.least;
+    even = want.even;
+    old = want.old;
+  }
+
+  -- or where the count is as great as can be
+  pub refilled-wanted : (ask : Ask) (a : Actor) → Wanted e w s me a ask
+      → Wanted e w s me (refills a) ask
+  refilled-wanted ask a want = record {
+    fresh = omega (
+      arith,
+      want.fresh,
+      allocated-with e w s me is (only ask.name) (at Begin a) (at Begin (refills a)),
     );
     least = want.least;
     even = want.even;
@@ -116,6 +131,7 @@ module _ (e : Setup) (w : State) (s : Shared) (me : ℕ) (is : is_scheduler e me
     };
     made = made-wanted;
     listed = listed-wanted;
+    refilled = refilled-wanted;
     stays = held-stays;
     resize = λ old fresh need a held new least even stays g.
         log-goes e w s me is G (keeps-operation e w s me is)

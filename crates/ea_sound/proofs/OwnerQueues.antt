@@ -44,6 +44,7 @@ use Rattle.ea_sound.proofs.Queueing.{Ends, Goes, Made, carried-goes, says-done, 
 use Rattle.ea_sound.proofs.Queueing.{seen-goes, tells-on}
 use Rattle.ea_sound.proofs.SettledRoutes.{IsSettled, here-released}
 use Rattle.ea_sound.proofs.ShortRoutes.{here-short}
+use Rattle.ea_machine.specs.Placements.{refills}
 
 module _ (e : Setup) (rules : (L : List ℕ) → Rule e (run e L)) (off : migration e ≡ false) (s : ℕ)
     (named : Named) (log : List Entry) where
@@ -137,10 +138,10 @@ module _ (e : Setup) (rules : (L : List ℕ) → Rule e (run e L)) (off : migrat
 
     chosen-goes : (a : Actor) (o : Option Spot) → a.log ≡ log → G (chosen_by e s ask a o)
     chosen-goes a (Some spot) same = placed_at-goes a spot same
-    chosen-goes a None same = search-goes a (migration e) off same
+    chosen-goes a None same = search-goes (refills a) (migration e) off same
 
     seek-goes : (a : Actor) (alone : Bool) → a.log ≡ log → G (seek_by e s ask a alone)
-    seek-goes a true same = planned-goes 0 a (plan a.instance need) same
+    seek-goes a true same = planned-goes 0 (refills a) (plan (refills a).instance need) same
     seek-goes a false same = chosen-goes a (chosen_spot a.instance need) same
 
     resized-goes : (a : Actor) → a.log ≡ log → G (resized_here named fresh need a)

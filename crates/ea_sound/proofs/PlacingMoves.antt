@@ -42,6 +42,7 @@ use Rattle.ea_sound.proofs.Plans.{planned-unused}
 use Rattle.ea_sound.proofs.RangeRows.{LieWell}
 use Rattle.ea_sound.proofs.Totals.{put-here}
 use Rattle.ea_sound.proofs.Weights.{one-most}
+use Rattle.ea_sound.proofs.Counts.{raised-most}
 
 module _ (e : Setup) (w : State) (s : Shared) (me : ℕ) (is : is_scheduler e me ≡ true) where
   -- a name that had no block has one at most now
@@ -119,6 +120,7 @@ module _ (e : Setup) (w : State) (s : Shared) (me : ℕ) (is : is_scheduler e me
           number = stands.number;
           first = stands.first;
           end = stands.end;
+          count = raised-most a.instance.settings e.settings a.instance.count stands.settings;
           order = placing-IsOrderly a.instance spot ask.need ask.name stands.order gap want.least
               want.even;
         };

@@ -57,6 +57,7 @@ use Rattle.ea_sound.proofs.ReleaseRoutes.{route-good}
 use Rattle.ea_sound.proofs.Staying.{AllStay, AllStayBut, but-stay, creating-stay}
 use Rattle.ea_sound.proofs.Staying.{creating_single-stay, placing-stay, vacant-empty}
 use Rattle.ea_sound.proofs.Suits.{Bare, CoreOf, Good, RouteGood}
+use Rattle.ea_sound.proofs.Counts.{raised-most}
 
 module _ (e : Setup) (s : Shared) (me : ℕ) (home bound : Counting → ℕ) (R : Actor → Type 0) where
   abbrev CoreIs : List Op → Actor → Type 0
@@ -190,6 +191,7 @@ module _ (e : Setup) (s : Shared) (me : ℕ) (home bound : Counting → ℕ) (R 
           number = own.number;
           first = own.first;
           end = own.end;
+          count = raised-most i.settings e.settings i.count own.settings;
           order = placing-IsOrderly i spot ask.need ask.name own.order gap least even;
         })
         (placing-stay me i spot ask.need ask.name but one)
@@ -224,6 +226,7 @@ module _ (e : Setup) (s : Shared) (me : ℕ) (home bound : Counting → ℕ) (R 
             number = own.number;
             first = own.first;
             end = own.end;
+            count = own.count;
             order = creating_single-IsOrderly a.instance ask.need p own.order asked new ask.name
                 least even;
           })
@@ -251,6 +254,7 @@ module _ (e : Setup) (s : Shared) (me : ℕ) (home bound : Counting → ℕ) (R 
             number = own.number;
             first = own.first;
             end = own.end;
+            count = own.count;
             order = creating-IsOrderly a.instance ask.need p own.order asked new;
           })
           (subst (λ n. AllStayBut me n i) (sym at) (creating-stay me a.instance p c.stay)) c.stay.1

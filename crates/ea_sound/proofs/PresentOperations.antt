@@ -50,6 +50,10 @@ use Rattle.ea_sound.proofs.PresentMoves.{created-good, hands-good, log-good, pla
 use Rattle.ea_sound.proofs.Staying.{resizing-stay}
 use Rattle.ea_sound.proofs.Suits.{Bare, CoreOf, Good, Wants}
 use Rattle.ea_sound.proofs.Unmoved.{always-Stands, planned-missing}
+use Rattle.ea_machine.specs.Placements.{refills}
+use Rattle.ea_sound.proofs.RowCores.{counted-bare}
+use Rattle.ea_model.specs.Settings.{most_count}
+use Rattle.ea_sound.proofs.Counts.{refilled-most}
 
 module _ (e : Setup) (s : Shared) (me : ℕ) (home bound : Counting → ℕ) (R : Actor → Type 0) where
   abbrev IsBare : List Op → Actor → Type 0
@@ -97,13 +101,19 @@ module _ (e : Setup) (s : Shared) (me : ℕ) (home bound : Counting → ℕ) (R 
       by false q = carrier-good ask (record a { lists = x.lists }) wants
           (record { core = b.core; own = b.own }) (looked_in x.part) (inr free)
 
+  module _ (ask : Ask) (a : Actor) (wants : Asks a ask) (b : IsBare a.todo a) where
+    full : IsBare (refills a).todo (refills a)
+    full = counted-bare e s me home bound a.todo (most_count a.instance.settings) a
+        (refilled-most a.instance.settings e.settings b.own.settings) b
+
     seek-good : IsGood (seek e me ask a)
     seek-good = alone (is_alone a.instance ask.need) refl where
       searching : (on : Bool) → migration e ≡ on → chosen_spot a.instance ask.need ≡ None
-          → IsGood (search_if e me ask a on)
-      searching true m free = search-good (new_search (greatest_number e) a.lists)
+          → IsGood (search_if e me ask (refills a) on)
+      searching true m free = search-good ask (refills a) wants full
+          (new_search (greatest_number e) a.lists)
           (new-left e a.lists) (new-looks_at e a.lists) m free
-      searching false m free = carrier-good ask a wants b 0 (inr free)
+      searching false m free = carrier-good ask (refills a) wants full 0 (inr free)
 
       choosing : (o : Option Spot) → chosen_spot a.instance ask.need ≡ o
           → IsGood (chosen_by e me ask a o)
@@ -112,7 +122,7 @@ module _ (e : Setup) (s : Shared) (me : ℕ) (home bound : Counting → ℕ) (R 
       choosing None free = searching (migration e) refl free
 
       alone : (own : Bool) → is_alone a.instance ask.need ≡ own → IsGood (seek_by e me ask a own)
-      alone true q = carrier-good ask a wants b 0 (inl q)
+      alone true q = carrier-good ask (refills a) wants full 0 (inl q)
       alone false q = choosing (chosen_spot a.instance ask.need) refl
 
   pub first-good : (x : Entry) (a : Actor) (o : Op) (ops : List Op) → a.todo ≡ o ∷ ops

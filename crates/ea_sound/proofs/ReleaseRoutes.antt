@@ -43,6 +43,10 @@ use Rattle.ea_laws.proofs.Orderly.{releasing-IsOrderly}
 use Rattle.ea_sound.proofs.Staying.{AllStay, AllStayBut, dismissing-stay, here-stay, releasing-stay}
 use Rattle.ea_sound.proofs.Suits.{Bare, CoreOf, TurnedGood}
 use Rattle.ea_sound.proofs.Unmoved.{due-unmoved, employed-owner, leaving-Stands, off-acul}
+use Rattle.ea_sound.proofs.Counts.{lessened-most}
+use Rattle.ea_model.specs.Instance.{has_content}
+use Rattle.ea_model.specs.declared.units.TheConstants.{RELEASED_COUNT}
+use Rattle.ea_model.specs.Settings.{most_count}
 
 not_nil-is : (bs : List BlockAt) → is_nil bs ≡ false → bs ≢ []
 not_nil-is [] e = absurd cc
@@ -130,6 +134,8 @@ module _ (e : Setup) (s : Shared) (me : ℕ) (home bound : Counting → ℕ) (y 
       number = b.own.number;
       first = b.own.first;
       end = b.own.end;
+      count = lessened-most (has_content h.spot.carrier i.contents) RELEASED_COUNT i.count
+          (most_count e.settings) b.own.count;
       order = releasing-IsOrderly i h.spot b.own.order;
     }
 
@@ -207,6 +213,7 @@ module _ (e : Setup) (s : Shared) (me : ℕ) (home bound : Counting → ℕ) (y 
           number = b.own.number;
           first = b.own.first;
           end = b.own.end;
+          count = in_order.count;
           order = disowning-IsOrderly (dismissing j x.number) x.number
               (dismissing-IsOrderly j x.number in_order.order);
         };
@@ -218,14 +225,14 @@ module _ (e : Setup) (s : Shared) (me : ℕ) (home bound : Counting → ℕ) (y 
       stays : is_vacant x ≡ false → IsBare after
       stays full = kept (λ z is. subst (λ v. is_vacant v ≡ false) (only_x z is) full)
 
-      abandoned-good : (due : Bool) (g : Gone) → is_due e.settings j.contents x ≡ due
+      abandoned-good : (due : Bool) (g : Gone) → is_due e.settings j.count j.contents x ≡ due
           → is_vacant x ≡ false → IsGood (abandoned_if due x g after)
       abandoned-good true g due full =
-          let multi = due-multi e.settings j.contents x due in
-          let some = due-some e.settings j.contents x due in
+          let multi = due-multi e.settings j.count j.contents x due in
+          let some = due-some e.settings j.count j.contents x due in
           let on : migration e ≡ true = elim (cases_Bool (migration e)) [
             | inl on ↦ on
-            | inr off ↦ absurd (true≢false (sym due ∙ due-unmoved e j.contents x off))
+            | inr off ↦ absurd (true≢false (sym due ∙ due-unmoved e j.count j.contents x off))
           ] in
           (in_hand (ap can_go multi) on, ((multi, not_nil-is x.blocks some, on), why))
       abandoned-good false g due full = (stays full, why)
@@ -256,7 +263,7 @@ module _ (e : Setup) (s : Shared) (me : ℕ) (home bound : Counting → ℕ) (y 
             leaving-good (owner_of x.number == me) (migration e) x g (dismissed x.number after)
             refl refl go (multi go) (λ on. vacant-nil x vacant) (in_hand go) (cleared go) why
         lightened-good false g full =
-            abandoned-good (is_due e.settings j.contents x) g refl full
+            abandoned-good (is_due e.settings j.count j.contents x) g refl full
 
     at-good : (g : Gone) (o : Option Content) → content_of (employed j) c ≡ o
         → IsOwn e me h.spot i → IsGood (after_release e me g after o)

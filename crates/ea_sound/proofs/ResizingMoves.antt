@@ -50,6 +50,8 @@ use Rattle.ea_laws.proofs.Resizing.{content_after, single-shortens}
 use Rattle.ea_sound.proofs.StandingBlocks.{hit-found}
 use Rattle.ea_sound.proofs.StillMoves.{held-once}
 use Rattle.ea_sound.proofs.Totals.{put-here}
+use Rattle.ea_sound.proofs.Counts.{resized-most}
+use Rattle.ea_model.specs.Settings.{most_count}
 
 whole-units : (c : Content) → IsLaidOutAlone c → 512 * (c.units / 512) ≡ c.units
 whole-units c laid = omega (arith, laid.whole.0)
@@ -260,6 +262,8 @@ module _ (e : Setup) (w : State) (s : Shared) (me : ℕ) (is : is_scheduler e me
         number = fixed.1 ∙ stands.number;
         first = fixed.2 ∙ stands.first;
         end = fixed.3 ∙ stands.end;
+        count = resized-most (decision_at i spot need) i spot (resized_to i spot need) fresh
+            (most_count e.settings) stands.count;
         order = resizing-IsOrderly i spot need fresh c found.0 stands.order there.1 found.1 least
             even owns;
       }

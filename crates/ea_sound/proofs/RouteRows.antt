@@ -45,6 +45,9 @@ use Rattle.ea_sound.proofs.RowCores.{bound_of, core, disowned-bare, hand_named, 
 use Rattle.ea_sound.proofs.RowCores.{put-more, seat, still}
 use Rattle.ea_sound.proofs.Suits.{Bare, CoreOf, TurnedGood}
 use Rattle.ea_sound.proofs.Totals.{total-put}
+use Rattle.ea_sound.proofs.RowCores.{counted-core}
+use Rattle.std.proofs.Common.{◌-◌}
+use Rattle.ea_model.specs.declared.units.TheConstants.{RELEASED_COUNT}
 
 module _ (e : Setup) (w : State) (me : ℕ) (is : is_scheduler e me ≡ true) (rule : Rule e w)
     (y : Why) (g : Gone) where
@@ -193,7 +196,11 @@ module _ (e : Setup) (w : State) (me : ℕ) (is : is_scheduler e me ≡ true) (r
         by (Busy j) there (inr has) false same =
             go j has (busy-scheduler e w k h.spot.carrier j there)
         by (Pooled j l x) there f true same = (
-          core e w me is rule (Routed r y g) now (at_place h.spot.carrier (Busy me) w.shared)
+          counted-core e (at_place h.spot.carrier (Busy me) w.shared) me
+              (home_of e (at_place h.spot.carrier (Busy me) w.shared)) (bound_of e w me) _
+              (a.instance.count - RELEASED_COUNT) a
+              (λ n. blocks_named n (released x h.spot.offset))
+              (core e w me is rule (Routed r y g) now (at_place h.spot.carrier (Busy me) w.shared)
               (λ n. blocks_named n (released x h.spot.offset)) (rule.present.walking me)
               (λ n. omega (
                 arith,
@@ -201,7 +208,7 @@ module _ (e : Setup) (w : State) (me : ℕ) (is : is_scheduler e me ≡ true) (r
                     (slots e) (pooled-slot e w k h.spot.carrier j l x there),
                 ap (home_sum (blocks_named n)) there,
                 released-fewer n x h.spot.offset,
-              )),
+              ))),
           (((k.placed.pooled h.spot.carrier j l x there).1, on), why r now),
         )
         by (Pooled j l x) there (inr has) false same =

@@ -23,6 +23,9 @@ use Rattle.ea_sound.proofs.Numbered.{scheduler-seat}
 use Rattle.ea_laws.proofs.Orderly.{disowning-IsOrderly}
 use Rattle.ea_sound.proofs.Suits.{Bare, CoreOf}
 use Rattle.ea_sound.proofs.Totals.{total-part, total-put, total_at_past}
+use Rattle.ea_laws.proofs.Standing.{counted-Stands}
+use Rattle.ea_model.specs.Settings.{most_count}
+use Rattle.ea_laws.proofs.Orderly.{counted-IsOrderly}
 
 -- another value makes a total greater by what it counts, at most
 pub put-more : {A : Type 0} (f : A → ℕ) (m : ℕ → A) (k : ℕ) (v : A) (n : ℕ)
@@ -64,9 +67,40 @@ disowned-bare e s me home bound left c a on b = record {
     number = b.own.number;
     first = b.own.first;
     end = b.own.end;
+    count = b.own.count;
     order = disowning-IsOrderly a.instance c b.own.order;
   };
 }
+
+-- a scheduler of another count
+module _ (e : Setup) (s : Shared) (me : ℕ) (home bound : Counting → ℕ) (left : List Op) (n : ℕ)
+    (a : Actor) where
+  pub counted-core : (x : Counting → ℕ) → CoreOf e s me home bound left x a
+      → CoreOf e s me home bound left x (record a { instance = record a.instance { count = n } })
+  counted-core x c = record {
+    stay = c.stay;
+    history = c.history;
+    walking = c.walking;
+    few = c.few;
+    rising = c.rising;
+    names = c.names;
+    stands = λ off. counted-Stands n a.instance (c.stands off);
+    main = c.main;
+  }
+
+  pub counted-bare : n ≤ most_count e.settings → Bare e s me home bound left a
+      → Bare e s me home bound left (record a { instance = record a.instance { count = n } })
+  counted-bare most b = record {
+    core = counted-core (λ n. 0) b.core;
+    own = record {
+      settings = b.own.settings;
+      number = b.own.number;
+      first = b.own.first;
+      end = b.own.end;
+      count = most;
+      order = counted-IsOrderly n a.instance b.own.order;
+    };
+  }
 
 module _ (e : Setup) (w : State) (me : ℕ) (is : is_scheduler e me ≡ true) (rule : Rule e w) where
   abbrev pub a : Actor

@@ -46,7 +46,8 @@ module _ (e : Setup) (me : ℕ) where
       → (lightened e me b x g a).gone ≡ g
   lightened-gone true x g a =
       leaving-gone (owner_of x.number == me) (migration e) x g (dismissed x.number a)
-  lightened-gone false x g a = abandoned-gone (is_due e.settings a.instance.contents x) x g a
+  lightened-gone false x g a =
+      abandoned-gone (is_due e.settings a.instance.count a.instance.contents x) x g a
 
   -- a block that nothing became of is released
   after-released : (a : Actor) (o : Option Content) → IsReleased (after_release e me Open a o)

@@ -70,7 +70,8 @@ module _ (e : Setup) (me : ℕ) where
   lightened-short : (b : Bool) (x : Content) (g : Gone) (a : Actor)
       → Short 3 a (lightened e me b x g a)
   lightened-short true x g a = leaving-short (owner_of x.number == me) (migration e) x g _
-  lightened-short false x g a = abandoned-short (is_due e.settings a.instance.contents x) x g a
+  lightened-short false x g a =
+      abandoned-short (is_due e.settings a.instance.count a.instance.contents x) x g a
 
   after_release-short : (g : Gone) (a : Actor) (x : Option Content)
       → Short 3 a (after_release e me g a x)
@@ -133,7 +134,8 @@ module _ (e : Setup) (me : ℕ) where
   tried-short h g a (Head n) = (omega arith, same a)
   tried-short h g a Rests = (omega arith, same a)
   tried-short h g a (Passes n) = (omega arith, same a)
-  tried-short h g a (Won x) = (omega arith, same a)
+  tried-short h g a (Won x) =
+      (omega arith, (refl, refl, refl, refl, refl, refl, refl, refl, refl))
   tried-short h g a (Home x) = (omega arith, same a)
   tried-short h g a (Got p) = (omega arith, same a)
 

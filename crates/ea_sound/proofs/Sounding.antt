@@ -24,6 +24,7 @@ module _ (e : Setup) (w : State) (rule : Rule e w) where
         number = stands.number;
         first = stands.first;
         end = stands.end;
+        count = stands.count;
       }
 
   nobody : (i : ℕ) → (IsScheduler e.schedulers i → ⊥) → HasNothing i w

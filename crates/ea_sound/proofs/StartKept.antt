@@ -39,6 +39,7 @@ use Rattle.ea_sound.proofs.PlaceRows.{by_owner}
 use Rattle.ea_sound.proofs.Plans.{numbered-owner, own-between}
 use Rattle.ea_sound.proofs.Starting.{first-Stands}
 use Rattle.ea_sound.proofs.Totals.{total_at-none, total_at-same, total-is, total-none}
+use Rattle.ea_sound.proofs.Counts.{refilled-most}
 
 -- each scheduler's instance stands at its beginning
 abbrev pub MayStart : Setup → Type 0
@@ -287,6 +288,7 @@ module _ (e : Setup) where
       number = refl;
       first = refl;
       end = refl;
+      count = refilled-most e.settings e.settings refl;
       order = (may i is).orderly;
     })
 

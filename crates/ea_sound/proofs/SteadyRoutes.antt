@@ -32,14 +32,14 @@ use Rattle.ea_sound.proofs.Due.{due-in_hand, due-multi, multi-found}
 use Rattle.ea_sound.proofs.Unmoved.{due-unmoved}
 
 module _ (e : Setup) (me : ℕ) where
-  abbrev pub IsSteadyNext : List Content → Option (Route Content) → Type 0
-  IsSteadyNext cs None = Unit {0}
-  IsSteadyNext cs (Some r) = IsSteadyRoute e me cs r
+  abbrev pub IsSteadyNext : ℕ → List Content → Option (Route Content) → Type 0
+  IsSteadyNext count cs None = Unit {0}
+  IsSteadyNext count cs (Some r) = IsSteadyRoute e me count cs r
 
   -- a route that began from this walk
   abbrev pub Goes : Option Node → List Node → Turned → Type 0
   Goes next passed t = (t.actor.next ≡ next) × (t.actor.passed ≡ passed)
-      × IsSteadyNext t.actor.instance.contents t.route
+      × IsSteadyNext t.actor.instance.count t.actor.instance.contents t.route
 
   leaving-goes : (own on : Bool) (x : Content) (g : Gone) (a : Actor)
       → Goes a.next a.passed (leaving_by e me own on x g a)
@@ -54,30 +54,34 @@ module _ (e : Setup) (me : ℕ) where
   -- after a block was released from a carrier
   module _ (x : Content) (a : Actor) (order : OrderlyIf a) (c : ℕ)
       (there : content_of (employed a.instance) c ≡ Some x) where
-    abandoned-goes : (due : Bool) (g : Gone) → is_due e.settings a.instance.contents x ≡ due
+    abandoned-goes : (due : Bool) (g : Gone)
+        → is_due e.settings a.instance.count a.instance.contents x ≡ due
         → Goes a.next a.passed (abandoned_if due x g a)
     abandoned-goes false g due = (refl, refl, tt)
     abandoned-goes true g due = (refl, refl, in_hand) where
       orderly : IsOrderly a.instance
       orderly = elim (cases_Bool (migration e)) [
         | inl on ↦ order on
-        | inr off ↦ absurd (true≢false (sym due ∙ due-unmoved e a.instance.contents x off))
+        | inr off ↦ absurd (true≢false
+            (sym due ∙ due-unmoved e a.instance.count a.instance.contents x off))
       ]
 
       number : x.number ≡ c
       number = item_at-key number_of c x (employed a.instance) there
 
-      in_hand : is_due e.settings (x ∷ without_content x.number a.instance.contents) x ≡ true
-      in_hand = due-in_hand e.settings x a.instance.contents orderly.rising
+      in_hand : is_due e.settings a.instance.count
+          (x ∷ without_content x.number a.instance.contents) x ≡ true
+      in_hand = due-in_hand e.settings a.instance.count x a.instance.contents orderly.rising
           (multi-found a.instance x.number x orderly
-          (due-multi e.settings a.instance.contents x due)
+          (due-multi e.settings a.instance.count a.instance.contents x due)
           (ap (content_of (employed a.instance)) number ∙ there)) due
 
     lightened-goes : (vacant : Bool) (g : Gone)
         → Goes a.next a.passed (lightened e me vacant x g a)
     lightened-goes true g =
         leaving-goes (owner_of x.number == me) (migration e) x g (dismissed x.number a)
-    lightened-goes false g = abandoned-goes (is_due e.settings a.instance.contents x) g refl
+    lightened-goes false g =
+        abandoned-goes (is_due e.settings a.instance.count a.instance.contents x) g refl
 
   here-goes : (hand : Named) (g : Gone) (a : Actor) → OrderlyIf a
       → Goes a.next a.passed (release_here e me hand g a)

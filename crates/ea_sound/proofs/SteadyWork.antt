@@ -50,16 +50,18 @@ use Rattle.ea_machine.specs.Tasks.{carried_by, hands_over, let_go, task_over}
 use Rattle.ea_machine.specs.Walks.{after_route, begun, passed_on, taken, with_passed, worked_off}
 use Rattle.ea_sound.specs.Steady.{IsShown, IsSteady, IsSteadyStage, TellsShown, works_off}
 use Rattle.ea_sound.proofs.SteadyRoutes.{IsSteadyNext, OrderlyIf, route-goes, turned-goes}
+use Rattle.ea_machine.specs.Placements.{refills}
 
 module _ (e : Setup) (me : ℕ) where
   -- the operation itself leaves the walk as it is
   abbrev pub Leaves : Option Node → List Node → Actor → Type 0
   Leaves next passed a = (a.next ≡ next) × (a.passed ≡ passed)
-      × IsSteadyStage e me a.instance.contents a.stage × (works_off a.stage ≡ false)
+      × IsSteadyStage e me a.instance.count a.instance.contents a.stage
+      × (works_off a.stage ≡ false)
 
   carried-leaves : (task : Task) (g : Gone) (next : Option Node) (passed : List Node)
       (a : Actor) (r : Option (Route Content)) → a.next ≡ next → a.passed ≡ passed
-      → IsSteadyNext e me a.instance.contents r
+      → IsSteadyNext e me a.instance.count a.instance.contents r
       → Leaves next passed (carried_by (For task) (task_over task) g a r)
   carried-leaves task g next passed a None n p s = (n, p, tt, refl)
   carried-leaves task g next passed a (Some r) n p s = (n, p, s, refl)
@@ -126,11 +128,11 @@ module _ (e : Setup) (me : ℕ) where
   chosen-leaves : (ask : Ask) (a : Actor) (o : Option Spot)
       → Leaves a.next a.passed (chosen_by e me ask a o)
   chosen-leaves ask a (Some spot) = placed-leaves ask a (Some spot)
-  chosen-leaves ask a None = search_if-leaves ask a (migration e)
+  chosen-leaves ask a None = search_if-leaves ask (refills a) (migration e)
 
   seek_by-leaves : (ask : Ask) (a : Actor) (alone : Bool)
       → Leaves a.next a.passed (seek_by e me ask a alone)
-  seek_by-leaves ask a true = new-leaves ask 0 a
+  seek_by-leaves ask a true = new-leaves ask 0 (refills a)
   seek_by-leaves ask a false = chosen-leaves ask a (chosen_spot a.instance ask.need)
 
   seek-leaves : (ask : Ask) (a : Actor) → Leaves a.next a.passed (seek e me ask a)
@@ -239,7 +241,7 @@ module _ (e : Setup) (me : ℕ) where
 
   -- what is worked off, node by node
   carried-steady : (nodes : List Node) (g : Gone) (a : Actor) (r : Option (Route Content))
-      → IsSteadyNext e me a.instance.contents r → a.next ≡ None
+      → IsSteadyNext e me a.instance.count a.instance.contents r → a.next ≡ None
       → ((b : Actor) → b.next ≡ None → IsSteady e me (worked_off e me nodes b))
       → IsSteady e me (carried_by Walk (λ gone b. worked_off e me nodes b) g a r)
   carried-steady nodes g a None s none rest = rest a none
@@ -287,7 +289,7 @@ module _ (e : Setup) (me : ℕ) where
   begun-steady a (Got o) end = record { walk = λ _. end; off = λ q. absurd cc; route = tt }
 
   walked-steady : (g : Gone) (a : Actor) (r : Option (Route Content))
-      → IsSteadyNext e me a.instance.contents r → a.next ≡ None
+      → IsSteadyNext e me a.instance.count a.instance.contents r → a.next ≡ None
       → IsSteady e me (carried_by Walk (after_route e me Walk) g a r)
   walked-steady g a None s none = worked-steady a.passed a none
   walked-steady g a (Some r) s none = record {

@@ -90,7 +90,8 @@ module _ (e : Setup) (w : State) (me : ℕ) (k : Kept e w) (steady : AreSteady e
 
 -- and begins so
 first-steady : (e : Setup) (i : ℕ) (b : Bool)
-    → IsSteadyStage e i ((start e).actors i).instance.contents (first_stage e b)
+    → IsSteadyStage e i ((start e).actors i).instance.count
+    ((start e).actors i).instance.contents (first_stage e b)
 first-steady e i true = tt
 first-steady e i false = tt
 

@@ -44,6 +44,13 @@ use Rattle.ea_sound.proofs.KeyedWeights.{times, sum-without}
 use Rattle.ea_sound.proofs.Numbered.{scheduler-seat}
 use Rattle.ea_sound.proofs.RangeRows.{LieWell}
 use Rattle.ea_sound.proofs.Totals.{put-here}
+use Rattle.ea_model.specs.Instance.{lowered}
+use Rattle.ea_model.specs.Settings.{most_count}
+use Rattle.ea_machine.specs.Placements.{refills}
+use Rattle.ea_laws.proofs.Orderly.{counted-IsOrderly}
+use Rattle.ea_sound.proofs.Counts.{refilled-most}
+use Rattle.std.proofs.Common.{◌-◌}
+use Rattle.ea_sound.proofs.Counts.{lessened-most}
 
 -- a scheduler has the same instance, the same content in its hand, and as many names and nodes
 pub record Still (me : ℕ) (a b : Actor) : Type 1 where
@@ -265,6 +272,49 @@ module _ (e : Setup) (w : State) (s : Shared) (me : ℕ) (is : is_scheduler e me
       links = λ u. refl;
       nodes = λ g. refl;
     }) (λ n. omega arith) busy
+
+    -- its count changes
+    counted-goes : (n : ℕ) (a : Actor) → a.stage ≢ Ready → n ≤ most_count e.settings → P a
+        → P (record a { instance = record a.instance { count = n } })
+    counted-goes n a busy most p =
+        let lie = lies-with e w s me is a (keeps.kept a p) in
+        let own = lie.instance is in
+        goes-alike a (record a { instance = record a.instance { count = n } }) (record {
+          names = λ f. refl;
+          links = λ u. refl;
+          nodes = λ g. refl;
+          numbers = λ h k on. refl;
+          numbers_off = λ h k off. refl;
+          owned = λ m. refl;
+          lie = record {
+            instance = λ _. record {
+              settings = own.settings;
+              number = own.number;
+              first = own.first;
+              end = own.end;
+              count = most;
+              order = counted-IsOrderly n a.instance own.order;
+            };
+            nobody = λ none. absurd (true≢false (sym is ∙ none));
+            contents = lie.contents;
+            singles = lie.singles;
+            in_hand = lie.in_hand;
+            hand_laid = lie.hand_laid;
+          };
+        }) (record { blocks = λ n. omega arith; todo = λ n. omega arith; busy = busy }) p
+
+    pub lower-goes : (n : ℕ) (a : Actor) → a.stage ≢ Ready → P a
+        → P (record a { instance = lowered n a.instance })
+    lower-goes n a busy p =
+        let own = (lies-with e w s me is a (keeps.kept a p)).instance is in
+        counted-goes (a.instance.count - n) a busy
+        (lessened-most true n a.instance.count (most_count e.settings) own.count) p
+
+    pub refill-goes : (a : Actor) → a.stage ≢ Ready → P a → P (refills a)
+    refill-goes a busy p =
+        let own = (lies-with e w s me is a (keeps.kept a p)).instance is in
+        counted-goes (most_count a.instance.settings) a busy
+        (refilled-most a.instance.settings e.settings own.settings) p
 
     pub hand-goes : (h : Named) (y : Why) (g : Gone) (a : Actor) → named_at h.name a.held ≡ Some h
         → P (at Begin a) → P (at (Routed (Looking h) y g) (let_go h.name a))

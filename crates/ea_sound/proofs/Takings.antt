@@ -58,6 +58,7 @@ use Rattle.ea_sound.specs.Turns.{advanced}
 use Rattle.ea_sound.specs.OwnWork.{begin_takings, later_takings, stage_takings, takings}
 use Rattle.ea_sound.proofs.ShortRoutes.{route-short, turned-short}
 use Rattle.ea_sound.proofs.TurnLists.{step-mine}
+use Rattle.ea_machine.specs.Placements.{refills}
 
 begin-most : (n : Option Node) → begin_takings n ≤ 1
 begin-most None = omega arith
@@ -133,11 +134,11 @@ module _ (e : Setup) (me : ℕ) where
   chosen-few : (ask : Ask) (a : Actor) (o : Option Spot)
       → takings (chosen_by e me ask a o) ≤ later_takings a.todo
   chosen-few ask a (Some spot) = placed-few ask a (Some spot)
-  chosen-few ask a None = search_if-few ask a (migration e)
+  chosen-few ask a None = search_if-few ask (refills a) (migration e)
 
   seek_by-few : (ask : Ask) (a : Actor) (b : Bool)
       → takings (seek_by e me ask a b) ≤ later_takings a.todo
-  seek_by-few ask a true = new_carrier-few ask 0 a
+  seek_by-few ask a true = new_carrier-few ask 0 (refills a)
   seek_by-few ask a false = chosen-few ask a (chosen_spot a.instance ask.need)
 
   seek-few : (ask : Ask) (a : Actor) → takings (seek e me ask a) ≤ later_takings a.todo

@@ -24,7 +24,7 @@ use Rattle.ea_laws.proofs.Reallocating.{resizing-Stands}
 use Rattle.ea_laws.proofs.Resized.{with_size}
 use Rattle.ea_laws.proofs.Standing.{changing-Stands, deallocated-Stands}
 use Rattle.ea_laws.proofs.Standing.{employed-multi, employed-own}
-use Rattle.ea_laws.proofs.Standing.{planned-absent}
+use Rattle.ea_laws.proofs.Standing.{planned-absent, resized_more-Stands}
 use Rattle.ea_model.specs.Abandonment.{is_due}
 use Rattle.ea_model.specs.Employment.{dismissing, disowning}
 use Rattle.ea_machine.specs.Setup.{Setup, migration}
@@ -34,9 +34,9 @@ use Rattle.ea_laws.proofs.Resizing.{InMulti, InSingle, in_multi, in_single}
 use Rattle.ea_sound.proofs.Plans.{own-owner}
 
 -- no carrier is abandoned
-pub due-unmoved : (setup : Setup) (xs : List Content) (x : Content) → migration setup ≡ false
-    → is_due setup.settings xs x ≡ false
-due-unmoved setup xs x off = grind (arith, off)
+pub due-unmoved : (setup : Setup) (count : ℕ) (xs : List Content) (x : Content)
+    → migration setup ≡ false → is_due setup.settings count xs x ≡ false
+due-unmoved setup count xs x off = grind (arith, off)
 
 -- its settings say so
 pub off-acul : (e : Setup) (i : Instance) → migration e ≡ false → i.settings ≡ e.settings
@@ -121,8 +121,8 @@ module _ (i : Instance) (spot : Spot) (need name : ℕ) (st : Stands i)
   nothing_by : (d : Decision) (size : ℕ) → decision_at i spot need ≡ d
       → Stands (resized_by d i spot size name)
   nothing_by Stay size e = in_place size
-  nothing_by ShrinkHere size e = in_place size
-  nothing_by GrowHere size e = in_place size
+  nothing_by ShrinkHere size e = resized_more-Stands i spot size name (in_place size)
+  nothing_by GrowHere size e = resized_more-Stands i spot size name (in_place size)
   nothing_by (ShrinkCarrier pages) size e =
       absurd (shortens_none i.settings need pages (where_at i spot)
       (sym (ap (λ o. decision i.settings (size_of o) need (where_at i spot)) none) ∙ e))

@@ -43,6 +43,7 @@ use Rattle.ea_machine.specs.declared.tasks.Task.TheVariants.{Freeing, Moving}
 use Rattle.ea_machine.specs.declared.tasks.Why.TheVariants.{For}
 use Rattle.ea_sound.specs.Heap.{FirstChanges}
 use Rattle.ea_sound.proofs.ShortRoutes.{route-short}
+use Rattle.ea_machine.specs.Placements.{refills}
 
 module _ (e : Setup) (me n : ℕ) where
   -- b holds the name as a does
@@ -139,10 +140,10 @@ module _ (e : Setup) (me n : ℕ) where
 
     chosen-alike : (a : Actor) (o : Option Spot) → Goes a (chosen_by e me ask a o)
     chosen-alike a (Some spot) = placed_at-alike a spot
-    chosen-alike a None = search_if-alike a (migration e)
+    chosen-alike a None = search_if-alike (refills a) (migration e)
 
     seek_by-alike : (a : Actor) (alone : Bool) → Goes a (seek_by e me ask a alone)
-    seek_by-alike a true = planned-alike 0 a (plan a.instance ask.need)
+    seek_by-alike a true = planned-alike 0 (refills a) (plan (refills a).instance ask.need)
     seek_by-alike a false = chosen-alike a (chosen_spot a.instance ask.need)
 
     seek-alike : (a : Actor) → Goes a (seek e me ask a)

@@ -47,6 +47,7 @@ use Rattle.ea_sound.specs.Leaves.{InOperation, IsFresh, Wanted, making, placing}
 use Rattle.ea_sound.specs.Moments.{at}
 use Rattle.ea_sound.specs.Present.{OldHeld}
 use Rattle.ea_sound.proofs.Assembly.{Closed, hands-holds}
+use Rattle.ea_machine.specs.Placements.{refills}
 
 -- a stage of an operation with nothing in the hand
 abbrev pub HasNoHand : Stage Content → Type 0
@@ -74,6 +75,8 @@ pub record ClosedOperation (e : Setup) (w : State) (s : Shared) (me : ℕ) : Typ
       → Wanted e w s me (record a { instance = creating a.instance p }) ask
   pub listed : (ask : Ask) (l : Lists) (a : Actor) → Wanted e w s me a ask
       → Wanted e w s me (record a { lists = l }) ask
+  pub refilled : (ask : Ask) (a : Actor) → Wanted e w s me a ask
+      → Wanted e w s me (refills a) ask
   pub stays : (n : ℕ) (spot : Spot) (h : Named) (a : Actor) → named_at h.name a.held ≡ Some h
       → InOperation e w s me (at Begin (holding n spot a))
       → named_at h.name (holding n spot a).held ≡ Some h
@@ -169,11 +172,13 @@ module _ (e : Setup) (w : State) (s : Shared) (me : ℕ)
   chosen-holds : (ask : Ask) (a : Actor) (x : Option Spot) → chosen_spot a.instance ask.need ≡ x
       → Wanted e w s me a ask → G (at Begin a) → G (chosen_by e me ask a x)
   chosen-holds ask a (Some spot) is want g = placed_at-holds ask a spot want is g
-  chosen-holds ask a None is want g = search_if-holds ask a (migration e) want g
+  chosen-holds ask a None is want g = search_if-holds ask (refills a) (migration e)
+      (o.refilled ask a want) (c.refill (at Begin a) (λ q. absurd cc) g)
 
   seek_by-holds : (ask : Ask) (a : Actor) (b : Bool) → Wanted e w s me a ask → G (at Begin a)
       → G (seek_by e me ask a b)
-  seek_by-holds ask a true want g = planned-holds ask 0 a want g
+  seek_by-holds ask a true want g = planned-holds ask 0 (refills a) (o.refilled ask a want)
+      (c.refill (at Begin a) (λ q. absurd cc) g)
   seek_by-holds ask a false want g = chosen-holds ask a _ refl want g
 
   seek-holds : (ask : Ask) (a : Actor) → Wanted e w s me a ask → G (at Begin a)

@@ -16,7 +16,7 @@ use Rattle.ea_machine.specs.Table.{pooled}
 
 -- s is about to look at the carrier of a block that it is to release, of an operation or of its
 -- walk, and employs that carrier. Without the block the carrier has this content, and it is due
--- among those that s employs then
+-- among those that s employs then, by the count that s has then
 pub record IsDueWithout (setup : Setup) (state : State) (s : ℕ) (x : Content) : Type 0 where
   pub block : Named
   pub why : Why
@@ -25,8 +25,8 @@ pub record IsDueWithout (setup : Setup) (state : State) (s : ℕ) (x : Content) 
   pub employs : state.shared.places block.spot.carrier ≡ Employed s
   pub content : content_of (employed (releasing_at (state.actors s).instance block.spot))
       block.spot.carrier ≡ Some x
-  pub due : is_due setup.settings (releasing_at (state.actors s).instance block.spot).contents x
-      ≡ true
+  pub due : is_due setup.settings (releasing_at (state.actors s).instance block.spot).count
+      (releasing_at (state.actors s).instance block.spot).contents x ≡ true
 
 -- then s releases the block in its next step, and with the one that follows the carrier is in the
 -- pool, whatever steps others take in between

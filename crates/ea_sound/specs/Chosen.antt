@@ -10,7 +10,7 @@ use Rattle.ea_model.specs.Entries.{Entry}
 use Rattle.ea_model.specs.declared.reallocation.Decision.TheVariants.{Move}
 use Rattle.ea_model.specs.Content.{Content}
 use Rattle.ea_model.specs.Instance.{Instance, chosen_spot, creating, decision_at, place_at, plan}
-use Rattle.ea_model.specs.Instance.{resized_to, single_place}
+use Rattle.ea_model.specs.Instance.{refilled, resized_to, single_place}
 use Rattle.ea_machine.specs.Nodes.{named_at}
 use Rattle.ea_machine.specs.declared.nodes.Named.{Named}
 use Rattle.ea_machine.specs.Setup.{Setup, migration}
@@ -26,7 +26,8 @@ use Rattle.ea_sound.specs.FirstFits.{IsFetched}
 
 -- the carrier that is created for a block of this need, in a step of s: with migration on in a step
 -- of its own, from the plan that was made for it; with migration off in the step in which the begin
--- of the operation is over. It is still the plan of the instance then
+-- of the operation is over. It is still the plan of the instance then, whose count is as great as
+-- can be
 pub data Creates (setup : Setup) (state : State) (s need : ℕ) (i : Instance) (p : CarrierPlan)
     : Type 0 where
   ByItself : (on : migration setup ≡ true) (ask : Ask)
@@ -34,7 +35,7 @@ pub data Creates (setup : Setup) (state : State) (s need : ℕ) (i : Instance) (
       (is : i ≡ (state.actors s).instance) (planned : plan i need ≡ Ok p)
       → Creates setup state s need i p
   AtOnce : (off : migration setup ≡ false) (begins : IsBegun setup state s)
-      (is : i ≡ (advanced setup state s).instance) (planned : plan i need ≡ Ok p)
+      (is : i ≡ refilled (advanced setup state s).instance) (planned : plan i need ≡ Ok p)
       → Creates setup state s need i p
 
 -- the instance of s as it is just before it places a block of this need, in its step after the

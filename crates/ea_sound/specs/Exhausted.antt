@@ -6,7 +6,7 @@ use Rattle.ea_model.specs.declared.entries.Entry.TheVariants as entry
 use Rattle.ea_model.specs.declared.entries.NoCarrier.{NoCarrier}
 use Rattle.ea_model.specs.declared.operations.Op.{Op}
 use Rattle.ea_model.specs.declared.operations.Op.TheVariants as op
-use Rattle.ea_model.specs.Instance.{chosen_spot, plan}
+use Rattle.ea_model.specs.Instance.{chosen_spot, plan, refilled}
 use Rattle.ea_machine.specs.Setup.{Setup}
 use Rattle.ea_machine.specs.Machine.{run}
 use Rattle.ea_sound.specs.Turns.{IsBegun, actor_after, begun, log_after}
@@ -40,7 +40,8 @@ IsFailOf (op.Realloc old fresh bytes ∷ ops) need looked why x =
 IsFailOf _ need looked why x = ⊥
 
 -- s made this entry in its step after the steps `turns`, since it found no place. It employs, owns
--- and holds what it did when the begin was over, the old block of a reallocation too
+-- and holds what it did when the begin was over, the old block of a reallocation too; its count is
+-- as great as can be
 pub record IsExhausted (setup : Setup) (turns : List ℕ) (s : ℕ) (x : Entry) (need looked : ℕ)
     (why : NoCarrier) : Type 0 where
   pub before : List ℕ
@@ -50,7 +51,7 @@ pub record IsExhausted (setup : Setup) (turns : List ℕ) (s : ℕ) (x : Entry) 
   pub fails : IsFailOf (begun setup before s).todo need looked why x
   pub log : log_after setup (turns ++ s ∷ []) s ≡ (begun setup before s).log ++ x ∷ []
   pub instance : (actor_after setup (turns ++ s ∷ []) s).instance
-      ≡ (begun setup before s).instance
+      ≡ refilled (begun setup before s).instance
   pub held : (actor_after setup (turns ++ s ∷ []) s).held ≡ (begun setup before s).held
 
 -- where no place is found, the log says so

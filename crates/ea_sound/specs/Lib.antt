@@ -34,6 +34,8 @@ pub mod Grounded
 pub mod Heard
 -- How many carriers are created.
 pub mod FewCreated
+-- How an instance's count holds back abandoning.
+pub mod Counts
 -- That each scheduler ends.
 pub mod Progress
 -- What holds of each run.

@@ -21,6 +21,7 @@ use Rattle.ea_sound.specs.OnePlace.{NamesInOnePlace}
 use Rattle.ea_sound.specs.Over.{HadUnits, KeepsUnits, LieApart}
 use Rattle.ea_sound.specs.Released.{FailedHaveNone, KeepsPlaces, ReleasesOnce, StaysGone}
 use Rattle.ea_sound.specs.Exhausted.{FailsIfExhausted}
+use Rattle.ea_sound.specs.Counts.{AbandonsAtZero, CountsUpTo}
 use Rattle.ea_sound.specs.Entries.{EntersOne, LogsEach, QueuesByOwner, QueuesIfSeen, ReleasesIfSeen}
 use Rattle.ea_sound.specs.Entries.{SkipsUnheld}
 use Rattle.ea_sound.specs.Fetches.{FetchesFit}
@@ -75,8 +76,10 @@ pub record Protocol (setup : Setup) : Type 0 where
   pub creates : AtEachMoment CreatesFew setup
   -- and one is created only where own carriers and the pool were searched in vain
   pub seeks : CreatesIfSought setup
-  -- a carrier that is due after a release is abandoned
+  -- a carrier that is due after a release is abandoned, and none where the count isn't 0
   pub abandons : AbandonsIfDue setup
+  pub holds_back : AtEachMoment AbandonsAtZero setup
+  pub counts : AtEachMoment CountsUpTo setup
   -- each operation makes one entry, of its own kind, which tells how it came about: placements are
   -- chosen, and fails are exhausted
   pub logs : AtEachMoment LogEach setup

@@ -21,6 +21,7 @@ use Rattle.ea_sound.specs.Names.{allocated, of_content, of_hand, of_mark, of_nam
 use Rattle.ea_sound.specs.NodePlaces.{of_carrier_actor, of_carrier_mark, of_link, of_unlinked}
 use Rattle.ea_sound.specs.Places.{IsMultiOrOwn}
 use Rattle.ea_sound.specs.Ranges.{IsLaidOutAsKind}
+use Rattle.ea_model.specs.Settings.{most_count}
 
 -- the names that stand with a scheduler: held, passed by its walk, or in its hand
 abbrev pub names_of : (ℕ → Spot → ℕ) → Actor → ℕ
@@ -109,12 +110,14 @@ pub record Placed (e : Setup) (w : State) : Type 0 where
   pub off : migration e ≡ false → (c : ℕ) → w.shared.places c ≡ Absent
   pub beyond : (c : ℕ) → slots e ≤ c → w.shared.places c ≡ Absent
 
--- an instance has the settings of the run, its number and its region, and it employs carriers
+-- an instance has the settings of the run, its number and its region, and a count that they let it
+-- have, and it employs carriers
 pub record Standing (e : Setup) (i : ℕ) (j : Instance) : Type 0 where
   pub settings : j.settings ≡ e.settings
   pub number : j.number ≡ i
   pub first : j.first ≡ first_page e i
   pub end : j.end ≡ first_page e i + e.pages
+  pub count : j.count ≤ most_count e.settings
   pub order : IsOrderly j
 
 -- who is no scheduler has no carrier, and does nothing

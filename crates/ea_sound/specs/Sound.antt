@@ -1,5 +1,6 @@
 -- When a state is sound. `Sound` is all the parts together.
-use Rattle.std.specs.Prelude.{◌≡◌, ℕ, ◌+◌, []}
+use Rattle.std.specs.Prelude.{◌≡◌, ℕ, ◌+◌, ◌≤◌, []}
+use Rattle.ea_model.specs.Settings.{most_count}
 use Rattle.ea_model.specs.Trace.{IsScheduler}
 use Rattle.ea_machine.specs.Setup.{Setup, first_page}
 use Rattle.ea_machine.specs.declared.stages.Stage.TheVariants.{Ended}
@@ -12,12 +13,14 @@ use Rattle.ea_sound.specs.Units.{SumsUnits}
 use Rattle.ea_sound.specs.Listed.{ListsCarriers}
 use Rattle.ea_sound.specs.NodePlaces.{LinksNodes, ReturnsCarriers}
 
--- an instance has the settings of the run, its number and its region
+-- an instance has the settings of the run, its number and its region, and a count that they let it
+-- have
 pub record IsInstanceOf (setup : Setup) (i : ℕ) (a : Actor) : Type 0 where
   pub settings : a.instance.settings ≡ setup.settings
   pub number : a.instance.number ≡ i
   pub first : a.instance.first ≡ first_page setup i
   pub end : a.instance.end ≡ first_page setup i + setup.pages
+  pub count : a.instance.count ≤ most_count setup.settings
 
 -- who is no scheduler has nothing and does nothing
 pub record HasNothing (i : ℕ) (state : State) : Type 0 where

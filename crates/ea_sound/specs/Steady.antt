@@ -48,7 +48,7 @@ abbrev pub TellsShown : Setup → Answer → Type 0
 TellsShown e (Saw v) = IsShown e v
 TellsShown e _ = Unit {0}
 
-module _ (e : Setup) (me : ℕ) (employs : List Content) where
+module _ (e : Setup) (me count : ℕ) (employs : List Content) where
   -- the word that was seen of a carrier that is to be busy is that of an own pooled one, that of
   -- one to be fetched was shown, and a carrier that is to be abandoned is due
   abbrev pub IsSteadyRoute : Route Content → Type 0
@@ -56,7 +56,7 @@ module _ (e : Setup) (me : ℕ) (employs : List Content) where
   IsSteadyRoute (Trying hand seen) =
       ((largest : ℕ) × (seen ≡ word.Pooled me largest)) × IsShown e seen
   IsSteadyRoute (Settling x) = Unit {0}
-  IsSteadyRoute (Abandoning x) = is_due e.settings (x ∷ employs) x ≡ true
+  IsSteadyRoute (Abandoning x) = is_due e.settings count (x ∷ employs) x ≡ true
   IsSteadyRoute (Sending x) = Unit {0}
   IsSteadyRoute (Clearing x) = Unit {0}
   IsSteadyRoute (Pushing node to) = Unit {0}
@@ -79,7 +79,7 @@ module _ (e : Setup) (me : ℕ) (employs : List Content) where
 pub record IsSteady (e : Setup) (me : ℕ) (a : Actor) : Type 0 where
   pub walk : works_off a.stage ≡ false → a.next ≡ None → a.passed ≡ []
   pub off : works_off a.stage ≡ true → a.next ≡ None
-  pub route : IsSteadyStage e me a.instance.contents a.stage
+  pub route : IsSteadyStage e me a.instance.count a.instance.contents a.stage
 
 -- so is each scheduler
 abbrev pub AreSteady : Setup → State → Type 0

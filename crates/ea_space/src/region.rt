@@ -1,11 +1,11 @@
 //! The region and its calls.
 ghost use Rattle.std.specs.Prelude.{◌≡◌, ◌⊎◌, ℕ, ◌+◌, ◌-◌, ◌^◌, ◌<◌, ◌≤◌, ◌↔◌, [], All, Some};
-ghost use Rattle.std.specs.Prelude.{IsNone, IfSome, IfOk, length};
+ghost use Rattle.std.specs.Prelude.{Bool, IsNone, IfSome, IfOk, length};
 ghost use Rattle.ea_model.specs.declared.units.TheConstants.{NUMBERS};
-ghost use Rattle.ea_model.specs.Region.{runs_of, lowest_run, with_segment, cut_from, Laid};
+ghost use Rattle.ea_model.specs.Region.{runs_of, place_in, with_segment, cut_from, Laid};
 ghost use Rattle.ea_model.specs.Region.{AreFree, IsTail};
 
-use crate::walks::{index_of, lowest_start};
+use crate::walks::{index_of, start};
 use ea_model::keyed::enter_within;
 use ea_model::{NUMBERS, OutOfMemory, Segment};
 use std::alloc::Global;
@@ -52,10 +52,11 @@ impl Region {
         })
     }
 
-    /// Where the lowest free run of at least `pages` pages begins, or None where no free run has
+    /// Where a segment of `pages` pages is placed: at the front of the lowest free run that has as
+    /// many, or, where segments fall, at the end of the highest one; or None where no free run has
     /// that many.
-    pub fn find(&self, pages: u32) -> Option<u32>
-        ensures found { result ≡ lowest_run pages (runs_of self.now) }
+    pub fn find(&self, falling: bool, pages: u32) -> Option<u32>
+        ensures found { result ≡ place_in falling pages (runs_of self.now) }
         ensures none { IsNone result ↔ All (λ r. r.pages < pages) (runs_of self.now) }
 
         // The pages found lie in the region and meet no taken segment.
@@ -64,15 +65,15 @@ impl Region {
         ensures apart { IfSome result (λ base. AreFree base pages self.now.taken) }
         ensures laid { Laid self.now.first self.now.end self.now.taken }
     {
-        lowest_start(pages, self.first, self.end, &self.taken)
+        start(falling, pages, self.first, self.end, &self.taken)
     }
 
-    /// Takes `pages` pages from `base` on, where `find` found them: at the front of the lowest free
-    /// run that has that many.
+    /// Takes `pages` pages from `base` on, where `find` finds them.
     pub fn take(&mut self, base: u32, pages: u32)
         requires some { 1 ≤ pages }
         requires room { length self.old.taken < NUMBERS }
-        requires found { lowest_run pages (runs_of self.old) ≡ Some base }
+        requires found { (falling : Bool)
+            × (place_in falling pages (runs_of self.old) ≡ Some base) }
         ensures taken { self.new ≡ record self.old
             { taken = with_segment (record { base = base; pages = pages }) self.old.taken } }
 

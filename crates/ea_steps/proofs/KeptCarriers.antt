@@ -180,7 +180,7 @@ module _ (Placed Cut Cleared : ℕ → Type 0) where
         (keeps-dismissed a.instance x.number x there)
         (leaving-keeps own (migration e) x g c refl refl may)
     lightened-keeps false x g a there may =
-        abandoned-keeps (is_due e.settings a.instance.contents x) x g a there
+        abandoned-keeps (is_due e.settings a.instance.count a.instance.contents x) x g a there
 
     left-keeps : (n : ℕ) (g : Gone) (a : Actor) (o : Option Content)
         → content_of (employed a.instance) n ≡ o → MayGo n

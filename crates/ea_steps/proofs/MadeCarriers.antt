@@ -1,7 +1,7 @@
 -- The operation itself makes one carrier at most, in which it places its block; and what it does to
 -- the others.
 use Rattle.std.proofs.Common.{◌≡◌, ◌≢◌, ◌⊎◌, ℕ, ◌+◌, List, [], ◌∷◌, ◌++◌, Bool, true}
-use Rattle.std.proofs.Common.{false, refl, sym, ap, subst, inl, inr, arith}
+use Rattle.std.proofs.Common.{false, refl, sym, ap, subst, ◌∙◌, inl, inr, arith}
 use Rattle.std.specs.Prelude.{Option, None, Some, Result, Ok, Err}
 use Rattle.ea_model.specs.declared.carriers.CarrierPlan.{CarrierPlan}
 use Rattle.ea_model.specs.declared.carriers.Kind.TheVariants.{Multi}
@@ -14,14 +14,15 @@ use Rattle.ea_model.specs.declared.operations.Op.TheVariants as op
 use Rattle.ea_model.specs.declared.reallocation.Decision.{Decision}
 use Rattle.ea_model.specs.declared.reallocation.Decision.TheVariants.{Stay, ShrinkHere, GrowHere}
 use Rattle.ea_model.specs.declared.reallocation.Decision.TheVariants.{ShrinkCarrier, Move}
+use Rattle.ea_model.specs.declared.units.TheConstants.{NUMBERS}
 use Rattle.ea_model.specs.Content.{Content, is_vacant}
 use Rattle.ea_model.specs.Entries.{Entry}
 use Rattle.ea_model.specs.Instance.{Instance, chosen_spot, created_content, created_single}
-use Rattle.ea_model.specs.Instance.{creating}
-use Rattle.ea_model.specs.Instance.{creating_single, decision_at, is_alone, owner_of, place_at}
-use Rattle.ea_model.specs.Instance.{placing_at, plan as plan_for, planned_own, resized_to}
-use Rattle.ea_model.specs.Instance.{single_place}
-use Rattle.ea_model.specs.Units.{need_of}
+use Rattle.ea_model.specs.Instance.{creating, creating_single, decision_at, first_number}
+use Rattle.ea_model.specs.Instance.{free_run, is_alone, least_plan, numbered_plan, owner_of}
+use Rattle.ea_model.specs.Instance.{place_at, placing_at, plan as plan_for, planned_own, refilled}
+use Rattle.ea_model.specs.Instance.{resized_to, single_place, sized_plan, unused_from, wanted_pages}
+use Rattle.ea_model.specs.Units.{least_pages, need_of}
 use Rattle.ea_model.proofs.Options.{some_value}
 use Rattle.ea_laws.specs.Kept.{own_number}
 use Rattle.ea_laws.proofs.Keeping.{chosen-planned}
@@ -40,7 +41,8 @@ use Rattle.ea_machine.specs.Nodes.{named_at}
 use Rattle.ea_machine.specs.Operations.{freed, giving, itself}
 use Rattle.ea_machine.specs.Placements.{chosen_by, created, created_by, fetched, fetches}
 use Rattle.ea_machine.specs.Placements.{holding, making, new_carrier, new_carrier_by, placed_at}
-use Rattle.ea_machine.specs.Placements.{placed_by, placed_in_choice, saw_by, search_if, search_on}
+use Rattle.ea_machine.specs.Placements.{placed_by, placed_in_choice, refills, saw_by, search_if}
+use Rattle.ea_machine.specs.Placements.{search_on}
 use Rattle.ea_machine.specs.Placements.{searched, searched_by, seek, seek_by, spot_of_place, stands}
 use Rattle.ea_machine.specs.Reallocations.{reallocated, reallocated_by, resized_here}
 use Rattle.ea_machine.specs.Rows.{Answer, Done, Head, Rests, Passes, Saw, Won, Lost, Home, Got}
@@ -74,6 +76,27 @@ Any c = Unit {0}
 abbrev pub Never : ℕ → Type 0
 Never c = ⊥
 
+-- an instance plans the same whatever its count is
+least-refilled : (i : Instance) (need number : ℕ) (o : Option ℕ)
+    → least_plan (refilled i) need number o ≡ least_plan i need number o
+least-refilled i need number None = refl
+least-refilled i need number (Some base) = refl
+
+sized-refilled : (i : Instance) (need number : ℕ) (o : Option ℕ)
+    → sized_plan (refilled i) need number o ≡ sized_plan i need number o
+sized-refilled i need number None = least-refilled i need number (free_run i (least_pages need))
+sized-refilled i need number (Some base) = refl
+
+numbered-refilled : (i : Instance) (need : ℕ) (o : Option ℕ)
+    → numbered_plan (refilled i) need o ≡ numbered_plan i need o
+numbered-refilled i need None = refl
+numbered-refilled i need (Some number) =
+    sized-refilled i need number (free_run i (wanted_pages i need))
+
+plan-refilled : (i : Instance) (need : ℕ) → plan_for (refilled i) need ≡ plan_for i need
+plan-refilled i need =
+    numbered-refilled i need (unused_from NUMBERS (first_number i.number) i.own)
+
 module _ (e : Setup) (me : ℕ) (Going : Named → Type 0) where
   -- the own carrier of the block that goes, where carriers don't migrate
   abbrev pub OldGone : ℕ → Type 0
@@ -103,6 +126,25 @@ module _ (e : Setup) (me : ℕ) (Going : Named → Type 0) where
       pub keeps : Keeps (λ c. c ≡ place.carrier) Never OldGone with_new nothing b.instance
           (hand_of b)
       pub busy : b.stage ≢ Ready
+
+  grows-refilled : (i : Instance) (log : List Entry) (p : CarrierPlan) (b : Actor)
+      → Grows (refilled i) log p b → Grows i log p b
+  grows-refilled i log p b grows = record {
+    need = grows.need;
+    planned = sym (plan-refilled i grows.need) ∙ grows.planned;
+    new = grows.new;
+    number = grows.number;
+    birth = grows.birth;
+    with_new = grows.with_new;
+    sums = grows.sums;
+    owns = grows.owns;
+    counted = grows.counted;
+    place = grows.place;
+    told = grows.told;
+    within = grows.within;
+    keeps = grows.keeps;
+    busy = grows.busy;
+  }
 
   -- where the new block stands
   stands-told : (n : ℕ) (q : Place) (old : Option Named) (b : Actor)
@@ -272,6 +314,17 @@ module _ (e : Setup) (me : ℕ) (Going : Named → Type 0) where
       More : (off : migration e ≡ false) (plan : CarrierPlan) (grows : Grows i log plan b)
           → Goes i h log b
 
+    -- whatever the count was before
+    goes-refilled : (i : Instance) (h : Hand) (log : List Entry) (b : Actor)
+        → Goes (refilled i) h log b → Goes i h log b
+    goes-refilled i h log b (Same stays busy) = Same (record {
+      created = stays.created;
+      owns = stays.owns;
+      weighs = stays.weighs;
+    }) busy
+    goes-refilled i h log b (More off plan grows) =
+        More off plan (grows-refilled i log plan b grows)
+
     -- nothing is done to carriers
     idle : (b c : Actor) → c.instance ≡ b.instance → hand_of c ≡ nothing → c.stage ≢ Ready
         → Goes b.instance nothing b.log c
@@ -331,11 +384,15 @@ module _ (e : Setup) (me : ℕ) (Going : Named → Type 0) where
     chosen-goes : (ask : Ask) (b : Actor) (o : Option Spot) → OldGoing ask.old
         → Goes b.instance nothing b.log (chosen_by e me ask b o)
     chosen-goes ask b (Some spot) going = placed-goes ask b spot going
-    chosen-goes ask b None going = search_if-goes ask b (migration e) going
+    chosen-goes ask b None going =
+        goes-refilled b.instance nothing b.log (search_if e me ask (refills b) (migration e))
+        (search_if-goes ask (refills b) (migration e) going)
 
     seek_by-goes : (ask : Ask) (b : Actor) (alone : Bool) → OldGoing ask.old
         → Goes b.instance nothing b.log (seek_by e me ask b alone)
-    seek_by-goes ask b true going = new_carrier-goes ask 0 b going
+    seek_by-goes ask b true going =
+        goes-refilled b.instance nothing b.log (new_carrier e me ask 0 (refills b))
+        (new_carrier-goes ask 0 (refills b) going)
     seek_by-goes ask b false going = chosen-goes ask b (chosen_spot b.instance ask.need) going
 
     seek-goes : (ask : Ask) (b : Actor) → OldGoing ask.old

@@ -19,7 +19,8 @@ use Rattle.ea_model.specs.Content.{Content}
 use Rattle.ea_model.specs.Entries.{Entry}
 use Rattle.ea_model.specs.Instance.{chosen_spot, creating, creating_single, decision_at, figures}
 use Rattle.ea_model.specs.Instance.{is_alone}
-use Rattle.ea_model.specs.Instance.{place_at, placing_at, plan, resizing_at, single_place}
+use Rattle.ea_model.specs.Instance.{place_at, placing_at, plan, refilled, resizing_at}
+use Rattle.ea_model.specs.Instance.{single_place}
 use Rattle.ea_model.specs.Keyed.{has_key, without}
 use Rattle.ea_model.specs.Units.{need_of}
 use Rattle.ea_model.proofs.Rising.{item_at-key}
@@ -28,7 +29,7 @@ use Rattle.ea_machine.specs.Nodes.{named_at, name_of, with_name, without_name}
 use Rattle.ea_machine.specs.Operations.{freed, giving, itself}
 use Rattle.ea_machine.specs.Placements.{chosen_by, created, created_by, fetched, fetches, holding}
 use Rattle.ea_machine.specs.Placements.{making, new_carrier_by, pass, placed_at, placed_by}
-use Rattle.ea_machine.specs.Placements.{failed, saw_by, search_if, search_on, searched}
+use Rattle.ea_machine.specs.Placements.{failed, refills, saw_by, search_if, search_on, searched}
 use Rattle.ea_machine.specs.Placements.{searched_by, seek, seek_by, spot_of_place, stands}
 use Rattle.ea_machine.specs.Reallocations.{reallocated, reallocated_by, resized_here, resized_place}
 use Rattle.ea_machine.specs.Releases.{Turned, route_of, routed}
@@ -303,10 +304,11 @@ module _ (e : Setup) (me : ℕ) (f : ℕ → Spot → ℕ) (g : Entry → ℕ)
 
     chosen-stays : (a : Actor) (o : Option Spot) → Asks a → Stays a (chosen_by e me ask a o)
     chosen-stays a (Some spot) is = placed_at-stays a spot is
-    chosen-stays a None is = search_if-stays a (migration e) is
+    chosen-stays a None is = search_if-stays (refills a) (migration e) is
 
     seek_by-stays : (a : Actor) (alone : Bool) → Asks a → Stays a (seek_by e me ask a alone)
-    seek_by-stays a true is = planned-stays 0 a (plan a.instance ask.need) is
+    seek_by-stays a true is =
+        planned-stays 0 (refills a) (plan (refilled a.instance) ask.need) is
     seek_by-stays a false is = chosen-stays a (chosen_spot a.instance ask.need) is
 
     seek-stays : (a : Actor) → Asks a → Stays a (seek e me ask a)

@@ -283,6 +283,7 @@ no_settings = record {
   rsbcst = 0;
   asbcst = 0;
   ramv = false;
+  rules = record { powers = false; falling = false; counter = false };
 }
 
 abbrev pub no_config : Config

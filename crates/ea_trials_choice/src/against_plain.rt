@@ -6,8 +6,8 @@ ghost use Rattle.ea_model.specs.Settings.{IsValid};
 use crate::plain::{NoChoice, choice};
 use ea_instance::Instance;
 use ea_model::{
-    BlockAt, Candidate, CarrierPlan, Gap, Kind, MAX_SEARCH_DEPTH, OutOfMemory, PAGE_UNITS, Place,
-    Settings, Spot, Strategy,
+    BlockAt, Candidate, CarrierPlan, Gap, Kind, MAX_SEARCH_DEPTH, NO_RULES, OutOfMemory,
+    PAGE_UNITS, Place, Settings, Spot, Strategy,
 };
 use ea_trials_carriers::PlainCarrier;
 use std::alloc::Global;
@@ -30,6 +30,7 @@ const SETTINGS: Settings = Settings {
     rsbcst: 20,
     asbcst: 131_072,
     ramv: false,
+    rules: NO_RULES,
 };
 
 const LISTS: u64 = 40;

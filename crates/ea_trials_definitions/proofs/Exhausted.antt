@@ -4,7 +4,7 @@ use Rattle.std.proofs.Common.{◌∙◌, ap, subst, inr}
 use Rattle.std.specs.Prelude.{count_by, length}
 use Rattle.ea_model.specs.Entries.{Entry}
 use Rattle.ea_model.specs.declared.entries.NoCarrier.{NoCarrier}
-use Rattle.ea_model.specs.Instance.{Instance, chosen_spot, plan}
+use Rattle.ea_model.specs.Instance.{Instance, chosen_spot, plan, refilled}
 use Rattle.ea_sound.specs.Exhausted.{IsExhausted, IsFailOf, seen_since}
 use Rattle.ea_machine.specs.Machine.{run}
 use Rattle.ea_sound.specs.Needs.{AsksFor}
@@ -39,7 +39,7 @@ pub exhausted : (setup : Setup) (turns : List ℕ) (s : ℕ) (x : Entry) (need l
     → (begun setup before s).log ≡ log
     → log_after setup (turns ++ s ∷ []) s ≡ log ++ x ∷ []
     → (begun setup before s).instance ≡ i
-    → (actor_after setup (turns ++ s ∷ []) s).instance ≡ i
+    → (actor_after setup (turns ++ s ∷ []) s).instance ≡ refilled i
     → (begun setup before s).held ≡ held
     → (actor_after setup (turns ++ s ∷ []) s).held ≡ held
     → IsExhausted setup turns s x need looked why
@@ -71,6 +71,6 @@ exhausted setup turns s x need looked why before since seen log i held split beg
       };
       fails = fails;
       log = now ∙ ap (λ l. l ++ x ∷ []) (sym then);
-      instance = has ∙ sym had;
+      instance = has ∙ ap refilled (sym had);
       held = held_now ∙ sym held_then;
     }

@@ -2,6 +2,7 @@
 use Rattle.std.proofs.Common.{◌≡◌, false, [], ◌∷◌, sym, ap, subst, arith}
 use Rattle.std.specs.Prelude.{Option, None, Some, IfSome, option_map}
 use Rattle.ea_model.specs.declared.settings.Settings.{Settings}
+use Rattle.ea_model.specs.declared.settings.TheConstants.{NO_RULES}
 use Rattle.ea_model.specs.declared.settings.Strategy.TheVariants.{AoffCbf}
 use Rattle.ea_model.specs.declared.operations.Op.TheVariants as op
 use Rattle.ea_model.specs.declared.carriers.Kind.TheVariants.{Multi}
@@ -27,6 +28,7 @@ usual_settings = record {
   rsbcst = 20;
   asbcst = 131072;
   ramv = false;
+  rules = NO_RULES;
 }
 
 -- scheduler 1 moves block 2 out of its carrier
@@ -105,6 +107,7 @@ full_instance = record {
   } ∷ [];
   singles = [];
   created = 1;
+  count = 0;
 }
 
 abbrev value : Setup → Option Setup → Setup

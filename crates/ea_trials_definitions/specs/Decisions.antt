@@ -1,6 +1,7 @@
 -- Words of tests: settings of the worked decisions.
 use Rattle.std.specs.Prelude.{ℕ, false}
 use Rattle.ea_model.specs.declared.settings.Settings.{Settings}
+use Rattle.ea_model.specs.declared.settings.TheConstants.{NO_RULES}
 use Rattle.ea_model.specs.declared.settings.Strategy.TheVariants.{AoffCbf}
 use Rattle.ea_model.specs.Decision.{decision}
 use Rattle.ea_model.specs.declared.reallocation.Decision.{Decision}
@@ -23,6 +24,7 @@ usual = record {
   rsbcst = 20;
   asbcst = 131072;
   ramv = false;
+  rules = NO_RULES;
 }
 
 abbrev pub multi : ℕ → ℕ → ℕ → Decision

@@ -4,6 +4,7 @@ use Rattle.std.specs.Prelude.{ℕ, false, Result, Ok, Err}
 use Rattle.ea_model.specs.declared.settings.Strategy.{Strategy}
 use Rattle.ea_model.specs.declared.settings.Strategy.TheVariants.{AoffCbf}
 use Rattle.ea_model.specs.declared.settings.Settings.{Settings}
+use Rattle.ea_model.specs.declared.settings.TheConstants.{NO_RULES}
 use Rattle.ea_model.specs.declared.settings.Config.{Config}
 use Rattle.ea_flags.specs.declared.fault.FlagFault.{FlagFault}
 use Rattle.ea_flags.specs.declared.fault.FlagFault.TheVariants as fault
@@ -25,6 +26,7 @@ usual = record {
   rsbcst = 20;
   asbcst = 131072;
   ramv = false;
+  rules = NO_RULES;
 }
 
 -- a usual allocator with another strategy, or another limit for carriers that are abandoned

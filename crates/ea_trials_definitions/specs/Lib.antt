@@ -1,5 +1,6 @@
 pub mod Texts
 pub mod Moments
+pub mod NodeRules
 pub mod Runs
 pub mod Courses
 pub mod Counts

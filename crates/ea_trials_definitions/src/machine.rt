@@ -2,6 +2,7 @@
 //! what shows that they mean what was worked out by hand, before a law or a body stands on them.
 
 pub mod limits;
+pub mod node_rules;
 pub mod one;
 pub mod owns;
 pub mod pools;

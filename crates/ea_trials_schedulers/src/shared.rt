@@ -8,7 +8,9 @@ ghost use Rattle.ea_mem_shared.specs.Places.{place_at};
 
 use ea_machine::{Node, OwnerWord};
 use ea_mem_shared::MemShared;
-use ea_model::{Carried, Config, Letter, List, Mode, OutOfMemory, Settings, Spot, Strategy, Trace};
+use ea_model::{
+    Carried, Config, Letter, List, Mode, NO_RULES, OutOfMemory, Settings, Spot, Strategy, Trace,
+};
 use ea_shared::{Link, Rested, Shared, Tried};
 use std::alloc::Global;
 use std::test::Fail;
@@ -28,6 +30,7 @@ const SETTINGS: Settings = Settings {
     rsbcst: 20,
     asbcst: 524_288,
     ramv: false,
+    rules: NO_RULES,
 };
 
 const CONFIG: Config = Config {
@@ -58,6 +61,7 @@ const MIGRATING_SETTINGS: Settings = Settings {
     rsbcst: 20,
     asbcst: 524_288,
     ramv: false,
+    rules: NO_RULES,
 };
 
 const MIGRATING: Config = Config {

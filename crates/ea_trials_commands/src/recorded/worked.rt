@@ -1,9 +1,10 @@
 //! Worked inputs of recorded operations.
-ghost use Rattle.std.specs.Prelude.{◌≡◌, [], ◌∷◌, codes, Some, None};
+ghost use Rattle.std.specs.Prelude.{◌≡◌, [], ◌∷◌, codes, Some, None, true, false};
 ghost use Rattle.ea_model.specs.Words.{words};
 ghost use Rattle.ea_model.specs.declared.operations.Op.TheVariants as op;
+ghost use Rattle.ea_model.specs.declared.settings.TheConstants.{NO_RULES};
 ghost use Rattle.ea_trace.specs.declared.fault.TraceFault.TheVariants as fault;
-ghost use Rattle.ea_trials_commands.specs.Recorded.{order, refused, texts, turns};
+ghost use Rattle.ea_trials_commands.specs.Recorded.{order, refused, rules, texts, turns};
 
 /// Each scheduler has its own operations, and is told of each line whose it is.
 pub fn two_schedulers()
@@ -61,4 +62,44 @@ pub fn refused_inputs()
     ensures wrong_first { refused 1 (codes "type B\n1 free 9\n1 frob\nend\n")
         ≡ Some (fault.Syntax 3) }
     ensures accepted { refused 64 (codes "type B\n64 alloc 1 8\n 64\tfree  1 \nend\n# x") ≡ None }
+{}
+
+/// Directly after the `type` line, skipped lines apart, a line may say by which rules an input is
+/// run. Its trace is without that line.
+pub fn ruled_inputs()
+    ensures no_line { rules 1 (codes "type H\n1 idle\nend\n") ≡ Some NO_RULES }
+    ensures no_operation { rules 1 (codes "type H\nend\n") ≡ Some NO_RULES }
+    ensures powers { rules 1 (codes "type H\nrules powers\n1 idle\nend\n")
+        ≡ Some (record { powers = true; falling = false; counter = false }) }
+    ensures falling { rules 1 (codes "type H\n\n# x\n rules\tfalling \nend\n")
+        ≡ Some (record { powers = false; falling = true; counter = false }) }
+    ensures in_any_order { rules 1 (codes "type H\nrules counter powers\n# x\n1 idle\nend\n")
+        ≡ Some (record { powers = true; falling = false; counter = true }) }
+    ensures all { rules 1 (codes "type H\nrules falling counter powers\nend\n")
+        ≡ Some (record { powers = true; falling = true; counter = true }) }
+    ensures texts { texts 1 (codes "type H\nrules counter\n1 alloc 1 8\nend\n")
+        ≡ (op.Alloc 1 8 ∷ []) ∷ [] }
+{}
+
+/// A line of rules is refused in another place, and where it has no rule, an unknown one, or one
+/// twice. A refusal after it has the number of its line in the input.
+pub fn refused_rules()
+    ensures no_rule { refused 1 (codes "type H\nrules\nend\n") ≡ Some (fault.Syntax 2) }
+    ensures twice { refused 1 (codes "type H\nrules powers powers\nend\n")
+        ≡ Some (fault.Syntax 2) }
+    ensures unknown { refused 1 (codes "type H\nrules tree\nend\n") ≡ Some (fault.Syntax 2) }
+    ensures comment_after { refused 1 (codes "type H\nrules powers # x\nend\n")
+        ≡ Some (fault.Syntax 2) }
+    ensures large { refused 1 (codes "type H\nRules powers\nend\n") ≡ Some (fault.Syntax 2) }
+    ensures after_an_operation { refused 1 (codes "type H\n1 idle\nrules powers\nend\n")
+        ≡ Some (fault.Syntax 3) }
+    ensures second_line { refused 1 (codes "type H\nrules powers\nrules falling\nend\n")
+        ≡ Some (fault.Syntax 3) }
+    ensures first { refused 1 (codes "rules powers\ntype H\nend\n") ≡ Some (fault.Syntax 1) }
+    ensures after_end { refused 1 (codes "type H\nend\nrules powers\n") ≡ Some (fault.Syntax 3) }
+    ensures of_a_scheduler { refused 1 (codes "type H\n1 rules powers\nend\n")
+        ≡ Some (fault.Syntax 2) }
+    ensures no_end { refused 1 (codes "type H\nrules powers\n") ≡ Some fault.NoEnd }
+    ensures reused { refused 1 (codes "type H\nrules powers\n1 alloc 1 8\n1 alloc 1 8\nend\n")
+        ≡ Some (fault.NameReused 4) }
 {}

@@ -1,4 +1,4 @@
-use Rattle.std.proofs.Common.{◌≡◌, ◌+◌, ◌<◌, ◌≤◌, ℕ, List, sym, ap, ◌∙◌, subst, inl, inr, arith}
+use Rattle.std.proofs.Common.{◌≡◌, ◌+◌, ◌<◌, ◌≤◌, ℕ, List, sym, ◌∙◌, subst, inl, inr, arith}
 use Rattle.ea_model.specs.Content.{Content}
 use Rattle.ea_mbc.specs.declared.parts.Part.TheVariants as part
 use Rattle.ea_instance.proofs.PartWalks.{IsWalked, ends, next, part_of, same-layout}

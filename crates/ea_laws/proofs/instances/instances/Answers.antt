@@ -1,7 +1,8 @@
 use Rattle.ea_laws.proofs.Blocks.{dismissing-same, creating-same, creating_single-IsPlaced}
 use Rattle.ea_laws.proofs.Blocks.{placing-IsPlaced, releasing-gone, releasing-others}
 use Rattle.ea_laws.proofs.Keeping.{chosen-planned}
-use Rattle.ea_laws.proofs.Planning.{plans-number, plans-size, plans-space}
+use Rattle.ea_laws.proofs.Planning.{plans-falling, plans-number, plans-powers, plans-size}
+use Rattle.ea_laws.proofs.Planning.{plans-space}
 use Rattle.ea_laws.proofs.Reallocating.{resizing-Stands, resizing-begins, resizing-others}
 use Rattle.ea_laws.proofs.Refusals.{plan-numbers, plan-space}
 use Rattle.ea_laws.proofs.RegionUnits.{employed-within}
@@ -72,3 +73,9 @@ returns-clause-plans_size c = plans-size
 
 pub returns-clause-plans_space : goal.returns-clause-plans_space
 returns-clause-plans_space c = plans-space
+
+pub returns-clause-plans_powers : goal.returns-clause-plans_powers
+returns-clause-plans_powers c = plans-powers
+
+pub returns-clause-plans_falling : goal.returns-clause-plans_falling
+returns-clause-plans_falling c = plans-falling

@@ -8,6 +8,7 @@ use Rattle.ea_model.specs.declared.trace.Trace.{Trace}
 use Rattle.ea_model.specs.Outcome.{plain_outcome}
 use Rattle.ea_table.specs.Threads.{IsOfRun}
 use Rattle.ea_types.specs.Given.{parts_in}
+use Rattle.ea_types.specs.Input.{AreGiven}
 use Rattle.ea_types.specs.Output.{AreOutcomes, asked_in}
 use Rattle.ea_types.proofs.Outcomes.{PrintedBy, all-parts, first-given, scheduled-all}
 use Rattle.ea_types.proofs.Outcomes.{threaded-all}
@@ -22,6 +23,10 @@ run_scheduled-requires-clause-all g c =
     (map (λ part. part.items) i.parts.items)
     (subst (λ ts. slice_get ts 0 ≡ Some c.in-Some.first.now) c.as_slice-traces.ensures found)
     c.requires.texts c.requires.counts
+
+pub run_typed_threads-requires-clause-given : goal.run_typed_threads-requires-clause-given
+run_typed_threads-requires-clause-given g c κs within =
+    subst AreGiven (sym c.as_slice-traces.ensures) c.requires.not_generated
 
 pub unreachable-requires : goal.unreachable-requires
 unreachable-requires g c =

@@ -4,6 +4,10 @@ use Rattle.ea_sound.proofs.Schedules.{scheduled-texts}
 use Rattle.ea_contents.proofs.Standing.{start-empty}
 use Rattle.ea_contents.proofs.session.Session.new.Goals as goal
 
+pub new-requires-2-clause-texts : goal.new-requires-2-clause-texts
+new-requires-2-clause-texts c =
+    scheduled-texts c.args.config.schedulers c.args.trace.now c.requires.schedule c.requires.trace
+
 pub returns-clause-stands : goal.returns-clause-stands
 returns-clause-stands c =
     let d = c.args.config in

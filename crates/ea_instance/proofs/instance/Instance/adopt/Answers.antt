@@ -18,7 +18,7 @@ adopt-requires-clause-strategy c =
     (subst (λ (i : Instance). 0 < i.settings.acul) (sym c.self.view_is) c.requires.migrates)
 
 pub adopt-requires-clause-room : goal.adopt-requires-clause-room
-adopt-requires-clause-room c = few-adopted _ _ _ _ _ _ c.self.invariant c.args.carrier
+adopt-requires-clause-room c = few-adopted _ _ _ _ _ _ _ c.self.invariant c.args.carrier
     (ap (λ i. content_of (employed i) c.args.carrier.number) c.self.view_is ∙ c.requires.new)
     (subst (λ i. All (ContentsApart c.args.carrier) (employed i)) (sym c.self.view_is)
     c.requires.apart) c.requires.laid
@@ -26,7 +26,7 @@ adopt-requires-clause-room c = few-adopted _ _ _ _ _ _ c.self.invariant c.args.c
     (subst (λ (i : Instance). 0 < i.settings.acul) (sym c.self.view_is) c.requires.migrates)
 
 pub adopt-requires-clause-number : goal.adopt-requires-clause-number
-adopt-requires-clause-number c = new-adopted _ _ _ _ _ _ c.self.invariant c.args.carrier
+adopt-requires-clause-number c = new-adopted _ _ _ _ _ _ _ c.self.invariant c.args.carrier
     (ap (λ i. content_of (employed i) c.args.carrier.number) c.self.view_is ∙ c.requires.new)
     (subst (λ i. All (ContentsApart c.args.carrier) (employed i)) (sym c.self.view_is)
     c.requires.apart) c.requires.laid
@@ -34,7 +34,7 @@ adopt-requires-clause-number c = new-adopted _ _ _ _ _ _ c.self.invariant c.args
     (subst (λ (i : Instance). 0 < i.settings.acul) (sym c.self.view_is) c.requires.migrates)
 
 pub adopt-requires-clause-apart : goal.adopt-requires-clause-apart
-adopt-requires-clause-apart c = apart-adopted _ _ _ _ _ _ c.self.invariant c.args.carrier
+adopt-requires-clause-apart c = apart-adopted _ _ _ _ _ _ _ c.self.invariant c.args.carrier
     (ap (λ i. content_of (employed i) c.args.carrier.number) c.self.view_is ∙ c.requires.new)
     (subst (λ i. All (ContentsApart c.args.carrier) (employed i)) (sym c.self.view_is)
     c.requires.apart) c.requires.laid
@@ -42,7 +42,7 @@ adopt-requires-clause-apart c = apart-adopted _ _ _ _ _ _ c.self.invariant c.arg
     (subst (λ (i : Instance). 0 < i.settings.acul) (sym c.self.view_is) c.requires.migrates)
 
 pub invariant_of-self : goal.invariant_of-self
-invariant_of-self c = kept-adopted _ _ _ _ _ _ c.self.invariant c.args.carrier
+invariant_of-self c = kept-adopted _ _ _ _ _ _ _ c.self.invariant c.args.carrier
     (ap (λ i. content_of (employed i) c.args.carrier.number) c.self.view_is ∙ c.requires.new)
     (subst (λ i. All (ContentsApart c.args.carrier) (employed i)) (sym c.self.view_is)
     c.requires.apart) c.requires.laid

@@ -18,7 +18,7 @@ returns-in-Some c =
     let there = sym c.carrier.ensures ∙ ap (option_map (λ x. x.now)) c.in-Some.is in
     c.block_at.ensures
     ∙ sym (ap (block_of c.args.spot.offset)
-    (found-multi _ _ _ _ _ _ c.self.invariant _ c.self.view_is number _ there))
+    (found-multi _ _ _ _ _ _ _ c.self.invariant _ c.self.view_is number _ there))
 
 pub returns-in-Some-item_of : goal.returns-in-Some-item_of
 returns-in-Some-item_of c =
@@ -28,7 +28,7 @@ returns-in-Some-item_of c =
     ∙ ap (option_map (λ x. x.now)) c.in-Some-item_of.is in
     c.block_at-in-Some-item_of.ensures
     ∙ sym (ap (block_of c.args.spot.offset)
-    (found-single _ _ _ _ _ _ c.self.invariant _ c.self.view_is number none ∙ second))
+    (found-single _ _ _ _ _ _ _ c.self.invariant _ c.self.view_is number none ∙ second))
 
 pub returns-in-None : goal.returns-in-None
 returns-in-None c =
@@ -37,4 +37,4 @@ returns-in-None c =
     let second = sym (c.item_of.ensures ∙ ap (λ cs. content_of cs number) c.as_slice.ensures)
     ∙ ap (option_map (λ x. x.now)) c.in-None.is in
     sym (ap (block_of c.args.spot.offset)
-    (found-single _ _ _ _ _ _ c.self.invariant _ c.self.view_is number none ∙ second))
+    (found-single _ _ _ _ _ _ _ c.self.invariant _ c.self.view_is number none ∙ second))

@@ -11,7 +11,7 @@ returns-in-Some c =
     ap Some (c.line.ensures
     ∙ ap (λ (i : Instance). carrier_line i.number c.in-Some.multi.now) c.self.view_is)
     ∙ sym (ap (option_map (carrier_line c.args.self.now.number))
-    (found-multi _ _ _ _ _ _ c.self.invariant _ c.self.view_is number _ there))
+    (found-multi _ _ _ _ _ _ _ c.self.invariant _ c.self.view_is number _ there))
 
 pub returns-in-Some-item_of : goal.returns-in-Some-item_of
 returns-in-Some-item_of c =
@@ -22,7 +22,7 @@ returns-in-Some-item_of c =
     ap Some (c.single_line.ensures
     ∙ ap (λ (i : Instance). carrier_line i.number c.in-Some-item_of.single.now) c.self.view_is)
     ∙ sym (ap (option_map (carrier_line c.args.self.now.number))
-    (found-single _ _ _ _ _ _ c.self.invariant _ c.self.view_is number none ∙ second))
+    (found-single _ _ _ _ _ _ _ c.self.invariant _ c.self.view_is number none ∙ second))
 
 pub returns-in-None : goal.returns-in-None
 returns-in-None c =
@@ -31,4 +31,4 @@ returns-in-None c =
     let second = sym (c.item_of.ensures ∙ ap (λ cs. content_of cs number) c.as_slice.ensures)
     ∙ ap (option_map (λ x. x.now)) c.in-None.is in
     sym (ap (option_map (carrier_line c.args.self.now.number))
-    (found-single _ _ _ _ _ _ c.self.invariant _ c.self.view_is number none ∙ second))
+    (found-single _ _ _ _ _ _ _ c.self.invariant _ c.self.view_is number none ∙ second))

@@ -9,27 +9,29 @@ use Rattle.ea_instance.proofs.instance.Instance.create_single.Goals as goal
 
 pub new-requires-clause-pages : goal.new-requires-clause-pages
 new-requires-clause-pages c =
-    pages-most _ _ _ _ _ _ c.self.invariant c.args.need c.args.plan _ c.self.view_is c.requires.plan
+    pages-most _ _ _ _ _ _ _ c.self.invariant c.args.need c.args.plan _ c.self.view_is
+    c.requires.plan
 
 pub enter-requires-clause-room : goal.enter-requires-clause-room
 enter-requires-clause-room c =
-    few-alone _ _ _ _ _ _ c.self.invariant c.args.need c.args.plan _ c.self.view_is c.requires.plan
+    few-alone _ _ _ _ _ _ _ c.self.invariant c.args.need c.args.plan _ c.self.view_is
+    c.requires.plan
     c.requires.least c.requires.even
 
 pub enter-requires-clause-number : goal.enter-requires-clause-number
 enter-requires-clause-number c =
     subst (λ (x : Content). has_content x.number c.self.inside.singles ≡ false)
     (sym c.new.ensures)
-    (new-single _ _ _ _ _ _ c.self.invariant c.args.need c.args.plan _ c.self.view_is
+    (new-single _ _ _ _ _ _ _ c.self.invariant c.args.need c.args.plan _ c.self.view_is
     c.requires.plan)
 
 pub add-requires-clause-room : goal.add-requires-clause-room
 add-requires-clause-room c =
-    few-own _ _ _ _ _ _ c.self.invariant c.args.need c.args.plan _ c.self.view_is c.requires.plan
+    few-own _ _ _ _ _ _ _ c.self.invariant c.args.need c.args.plan _ c.self.view_is c.requires.plan
 
 pub add-requires-clause-number : goal.add-requires-clause-number
 add-requires-clause-number c =
-    unused-number _ _ _ _ _ _ c.self.invariant c.args.need c.args.plan _ c.self.view_is
+    unused-number _ _ _ _ _ _ _ c.self.invariant c.args.need c.args.plan _ c.self.view_is
     c.requires.plan
 
 entered : (c : goal.After-self-1)
@@ -40,14 +42,15 @@ entered c = c.enter.ensures
 
 pub invariant_of-self : goal.invariant_of-self
 invariant_of-self c =
-    kept-single-created _ _ _ _ _ _ c.self.invariant c.args.need c.args.plan _ c.self.view_is
+    kept-single-created _ _ _ _ _ _ _ c.self.invariant c.args.need c.args.plan _ c.self.view_is
     c.requires.plan _ c.add.ensures c.args.name c.requires.least c.requires.even _ (entered c)
 
 pub returns-clause-blocks : goal.returns-clause-blocks
 returns-clause-blocks c =
     subst (λ (i : Instance). IsPlaced (employed c.args.self.now) (employed i) c.args.name
     (single_place c.args.plan c.args.need))
-    (sym (seen-single-created _ _ _ _ _ _ c.self.invariant c.args.need c.args.plan _ c.self.view_is
+    (sym (seen-single-created _ _ _ _ _ _ _ c.self.invariant c.args.need c.args.plan _
+    c.self.view_is
     c.requires.plan _ c.add.ensures c.args.name c.requires.least c.requires.even _ (entered c)))
-    (blocks-single _ _ _ _ _ _ c.self.invariant c.args.need c.args.plan _ c.self.view_is
+    (blocks-single _ _ _ _ _ _ _ c.self.invariant c.args.need c.args.plan _ c.self.view_is
     c.requires.plan c.args.name)

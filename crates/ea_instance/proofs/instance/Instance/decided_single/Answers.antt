@@ -9,7 +9,7 @@ unreachable-requires c =
     let number = c.args.spot.carrier in
     let second = sym (c.item_of.ensures ∙ ap (λ cs. content_of cs number) c.as_slice.ensures)
     ∙ ap (option_map (λ x. x.now)) c.in-None.is in
-    never-none _ _ _ _ _ _ c.self.invariant c.args.spot c.args.need _ c.self.view_is
+    never-none _ _ _ _ _ _ _ c.self.invariant c.args.spot c.args.need _ c.self.view_is
     c.requires.block c.requires.single second
 
 pub returns : goal.returns
@@ -17,6 +17,6 @@ returns c =
     let number = c.args.spot.carrier in
     let second = sym (c.item_of.ensures ∙ ap (λ cs. content_of cs number) c.as_slice.ensures)
     ∙ ap (option_map (λ x. x.now)) c.in-Some.is in
-    c.decide.ensures ∙ decided-single _ _ _ _ _ _ c.self.invariant c.args.spot c.args.need _
+    c.decide.ensures ∙ decided-single _ _ _ _ _ _ _ c.self.invariant c.args.spot c.args.need _
     c.self.view_is c.requires.block c.requires.single _ _ _ second c.allocated.ensures
     c.units-units.ensures.units

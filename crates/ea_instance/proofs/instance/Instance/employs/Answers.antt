@@ -12,7 +12,7 @@ returns-then-is_some c =
     c.find_multi.ensures.there
     ∙ sym c.is_some.ensures ∙ c.if-is_some.true in
     c.if-is_some.true
-    ∙ sym (ap is_some (seen-found _ _ _ _ _ _ c.self.invariant _ c.self.view_is number)
+    ∙ sym (ap is_some (seen-found _ _ _ _ _ _ _ c.self.invariant _ c.self.view_is number)
     ∙ either-some _ _ there)
 
 pub returns-else-is_some : goal.returns-else-is_some
@@ -24,5 +24,6 @@ returns-else-is_some c =
     let there = sym (ap is_some (c.item_of.ensures
     ∙ ap (λ cs. content_of cs number) c.as_slice.ensures))
     ∙ is_some-map _ c.item_of.result ∙ sym c.is_some-else-is_some.ensures in
-    sym (ap is_some (seen-found _ _ _ _ _ _ c.self.invariant _ c.self.view_is number ∙ either-none _
+    sym (ap is_some (seen-found _ _ _ _ _ _ _ c.self.invariant _ c.self.view_is number ∙ either-none
+    _
     _ none) ∙ there)

@@ -18,7 +18,7 @@ leave-requires-clause-bins c = λ bins.
     (ap has_bins (sym c.self.invariant.strategy) ∙ bins)))
 
 pub invariant_of-self : goal.invariant_of-self
-invariant_of-self c = kept-dismissed _ _ _ _ _ _ c.self.invariant c.args.found.carrier.key.number
+invariant_of-self c = kept-dismissed _ _ _ _ _ _ _ c.self.invariant c.args.found.carrier.key.number
     c.leave.result c.leave.ensures.carrier _ c.leave.ensures.rest
 
 pub into_multi-requires : goal.into_multi-requires
@@ -28,10 +28,11 @@ into_multi-requires c = subst (λ o. IfSome o (λ (x : Content). x.kind ≡ Mult
     ∙ c.leave.ensures.carrier) c.requires.multi
 
 pub returns-clause-carrier : goal.returns-clause-carrier
-returns-clause-carrier c = found-multi _ _ _ _ _ _ c.self.invariant _ c.self.view_is
+returns-clause-carrier c = found-multi _ _ _ _ _ _ _ c.self.invariant _ c.self.view_is
     c.args.found.carrier.key.number c.leave.result c.leave.ensures.carrier ∙ ap Some (sym
     c.into_multi.ensures)
 
 pub returns-clause-rest : goal.returns-clause-rest
-returns-clause-rest c = seen-dismissed _ _ _ _ _ _ c.self.invariant c.args.found.carrier.key.number
+returns-clause-rest c = seen-dismissed _ _ _ _ _ _ _ c.self.invariant
+    c.args.found.carrier.key.number
     c.leave.result c.leave.ensures.carrier _ c.leave.ensures.rest _ c.self.view_is

@@ -1,10 +1,10 @@
-use Rattle.std.proofs.Common.{◌≡◌, ℕ, ◌+◌, ap, sym, subst, ◌∙◌}
+use Rattle.std.proofs.Common.{arith, ◌≡◌, ℕ, ◌+◌, ap, sym, subst, ◌∙◌}
 use Rattle.std.specs.Prelude.{max, Err, Ok, Some}
 use Rattle.ea_model.specs.declared.entries.NoCarrier.TheVariants.{Numbers, Space}
 use Rattle.ea_model.specs.declared.units.TheConstants.{NUMBERS}
 use Rattle.ea_model.specs.Instance.{Instance, first_number, free_run, growth, multis, plan}
-use Rattle.ea_model.specs.Instance.{segments, unused_from, wanted_pages}
-use Rattle.ea_model.specs.Region.{lowest_run, runs}
+use Rattle.ea_model.specs.Instance.{rounded, segments, unused_from, wanted_pages}
+use Rattle.ea_model.specs.Region.{place_in, runs}
 use Rattle.ea_model.specs.Units.{pages_for}
 use Rattle.ea_laws.specs.Kept.{Stands}
 use Rattle.ea_instance.proofs.Keeping.{planned-pages}
@@ -32,11 +32,12 @@ at_wanted c =
       | then-alone w ↦ w.wanted-is ∙ c.least_pages-least.ensures
           ∙ wanted-least i c.args.need (sym c.requires.alone ∙ w.if-alone.true)
       | else-alone w ↦ w.wanted-is ∙ w.next_pages-wanted.ensures
-          ∙ ap (λ n. max n (pages_for (growth i.settings (multis i.contents))))
+          ∙ ap (λ n. rounded i.settings (max n (pages_for (growth i.settings (multis i.contents)))))
           c.least_pages-least.ensures
           ∙ wanted-next i c.args.need (sym c.requires.alone ∙ w.if-alone.false)
     ] in
-    let run : (n : ℕ) → lowest_run n (runs c.self.inside.own.first c.self.inside.own.end
+    let run : (n : ℕ) → place_in c.self.inside.settings.rules.falling n (runs
+    c.self.inside.own.first c.self.inside.own.end
     (segments c.self.inside.own.carriers)) ≡ free_run i n =
     λ n. ap (λ j. free_run j n) c.self.view_is in
     ap Ok c.planned.ensures
@@ -56,11 +57,12 @@ at_least c =
       | then-alone w ↦ w.wanted-is ∙ c.least_pages-least.ensures
           ∙ wanted-least i c.args.need (sym c.requires.alone ∙ w.if-alone.true)
       | else-alone w ↦ w.wanted-is ∙ w.next_pages-wanted.ensures
-          ∙ ap (λ n. max n (pages_for (growth i.settings (multis i.contents))))
+          ∙ ap (λ n. rounded i.settings (max n (pages_for (growth i.settings (multis i.contents)))))
           c.least_pages-least.ensures
           ∙ wanted-next i c.args.need (sym c.requires.alone ∙ w.if-alone.false)
     ] in
-    let run : (n : ℕ) → lowest_run n (runs c.self.inside.own.first c.self.inside.own.end
+    let run : (n : ℕ) → place_in c.self.inside.settings.rules.falling n (runs
+    c.self.inside.own.first c.self.inside.own.end
     (segments c.self.inside.own.carriers)) ≡ free_run i n =
     λ n. ap (λ j. free_run j n) c.self.view_is in
     let least = c.least_pages-least.ensures in
@@ -89,17 +91,21 @@ no_space c =
       | then-alone w ↦ w.wanted-is ∙ c.least_pages-least.ensures
           ∙ wanted-least i c.args.need (sym c.requires.alone ∙ w.if-alone.true)
       | else-alone w ↦ w.wanted-is ∙ w.next_pages-wanted.ensures
-          ∙ ap (λ n. max n (pages_for (growth i.settings (multis i.contents))))
+          ∙ ap (λ n. rounded i.settings (max n (pages_for (growth i.settings (multis i.contents)))))
           c.least_pages-least.ensures
           ∙ wanted-next i c.args.need (sym c.requires.alone ∙ w.if-alone.false)
     ] in
-    let run : (n : ℕ) → lowest_run n (runs c.self.inside.own.first c.self.inside.own.end
+    let run : (n : ℕ) → place_in c.self.inside.settings.rules.falling n (runs
+    c.self.inside.own.first c.self.inside.own.end
     (segments c.self.inside.own.carriers)) ≡ free_run i n =
     λ n. ap (λ j. free_run j n) c.self.view_is in
     plan-no_space i c.args.need c.in-Some.number c.if-alone.wanted c.args.alone c.requires.alone
     free wants (sym c.in-None.is ∙ c.free_run.ensures ∙ run c.if-alone.wanted)
     (sym c.in-None-free_run.is ∙ c.free_run-in-None.ensures ∙ run c.least_pages-least.result
     ∙ ap (free_run i) c.least_pages-least.ensures)
+
+pub next_pages-wanted-requires : goal.next_pages-wanted-requires
+next_pages-wanted-requires c = omega (arith, c.least_pages-least.ensures, c.ranges.need)
 
 pub returns-in_default-clause-numbers : goal.returns-in_default-clause-numbers
 returns-in_default-clause-numbers c =

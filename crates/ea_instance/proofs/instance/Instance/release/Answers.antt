@@ -8,6 +8,7 @@ use Rattle.ea_model.proofs.Rising.{changed-found, item_at-All}
 use Rattle.ea_laws.specs.Kept.{number_of, IsLaidOut, IsLaidOutAlone}
 use Rattle.ea_laws.proofs.Blocks.{releasing-gone, releasing-others}
 use Rattle.ea_employed.specs.Listed.{CarrierList}
+use Rattle.ea_instance.specs.Kept.{KeepsCarriers, seen_as}
 use Rattle.ea_instance.proofs.Following.{shared-not_single, single-emptied, single-vacant}
 use Rattle.ea_instance.proofs.Following.{some-content}
 use Rattle.ea_instance.proofs.Keeping.{block-multi, block-single, found-multi, found-single}
@@ -23,14 +24,14 @@ IsEmptied o = IfSome o (λ c. c.kind ≡ Single → c.blocks ≡ [])
 pub release-requires-clause-block : goal.release-requires-clause-block
 release-requires-clause-block c =
     let spot = c.args.spot in
-    let (x, there) = multi-there _ _ _ _ _ _ c.self.invariant _ c.self.view_is spot.carrier
+    let (x, there) = multi-there _ _ _ _ _ _ _ c.self.invariant _ c.self.view_is spot.carrier
     (sym c.find_multi.ensures.there ∙ ap is_some c.in-Some.is) in
     subst (λ n. IsSome (block_in c.self.inside.carriers.contents (record {
       carrier = n;
       offset = spot.offset;
     }))) (sym c.in-Some.ensures.number) (subst IsSome
     (sym (ap (λ i. block_in (employed i) spot) c.self.view_is)
-    ∙ block-multi _ _ _ _ _ _ c.self.invariant spot x there) c.requires)
+    ∙ block-multi _ _ _ _ _ _ _ c.self.invariant spot x there) c.requires)
 
 -- the carrier that was found is the one of the spot
 told : (c : After-release) → c.release.new.self ≡ record c.self.inside.carriers {
@@ -46,21 +47,26 @@ told c = subst (λ n. c.release.new.self ≡ record c.self.inside.carriers {
 pub invariant_of-self : goal.invariant_of-self
 invariant_of-self c =
     let spot = c.args.spot in
-    kept-released _ _ _ _ _ _ c.self.invariant spot _ c.self.view_is
+    subst (KeepsCarriers c.self.inside.settings c.self.inside.number c.self.inside.own
+    c.release.new.self c.self.inside.singles c.self.inside.created)
+    (sym c.saturating_sub-self-inside.ensures)
+    (kept-released _ _ _ _ _ _ _ c.self.invariant spot _ c.self.view_is
     (sym c.find_multi.ensures.there ∙ ap is_some c.in-Some.is) _ (told (goal.at.invariant_of-self
-    c).After-release)
+    c).After-release))
 
 pub returns-in-Some-clause-released : goal.returns-in-Some-clause-released
 returns-in-Some-clause-released c =
     let spot = c.args.spot in
-    seen-released _ _ _ _ _ _ c.self.invariant spot _ c.self.view_is
+    ap (seen_as c.self.inside.settings c.self.inside.number c.self.inside.own c.release.new.self
+    c.self.inside.singles c.self.inside.created) c.saturating_sub-self-inside.ensures
+    ∙ seen-released _ _ _ _ _ _ _ c.self.invariant spot _ c.self.view_is
     (sym c.find_multi.ensures.there ∙ ap is_some c.in-Some.is) _ (told
     (goal.at.returns-in-Some-clause-released c).After-release)
 
 pub returns-in-Some-clause-vacant : goal.returns-in-Some-clause-vacant
 returns-in-Some-clause-vacant c =
     let spot = c.args.spot in
-    let (x, there) = multi-there _ _ _ _ _ _ c.self.invariant _ c.self.view_is spot.carrier
+    let (x, there) = multi-there _ _ _ _ _ _ _ c.self.invariant _ c.self.view_is spot.carrier
     (sym c.find_multi.ensures.there ∙ ap is_some c.in-Some.is) in
     let f : Content → Content = λ y. released y spot.offset in
     let now : content_of c.release.new.self.contents spot.carrier ≡ Some (f x) =
@@ -68,7 +74,7 @@ returns-in-Some-clause-vacant c =
     (goal.at.returns-in-Some-clause-vacant c).After-release)
     ∙ changed-found number_of f spot.carrier (λ y. refl) x c.self.inside.carriers.contents there in
     let found = found-multi _ _ c.self.inside.own c.release.new.self c.self.inside.singles
-    c.self.inside.created (kept-released _ _ _ _ _ _ c.self.invariant spot _ c.self.view_is
+    c.self.inside.created _ (kept-released _ _ _ _ _ _ _ c.self.invariant spot _ c.self.view_is
     (sym c.find_multi.ensures.there ∙ ap is_some c.in-Some.is) _ (told
     (goal.at.returns-in-Some-clause-vacant c).After-release)) _ refl spot.carrier (f x) now in
     c.release.ensures.vacant
@@ -78,7 +84,7 @@ returns-in-Some-clause-vacant c =
 pub returns-in-Some-clause-emptied : goal.returns-in-Some-clause-emptied
 returns-in-Some-clause-emptied c =
     let spot = c.args.spot in
-    let (x, there) = multi-there _ _ _ _ _ _ c.self.invariant _ c.self.view_is spot.carrier
+    let (x, there) = multi-there _ _ _ _ _ _ _ c.self.invariant _ c.self.view_is spot.carrier
     (sym c.find_multi.ensures.there ∙ ap is_some c.in-Some.is) in
     let f : Content → Content = λ y. released y spot.offset in
     let now : content_of c.release.new.self.contents spot.carrier ≡ Some (f x) =
@@ -86,7 +92,7 @@ returns-in-Some-clause-emptied c =
     (goal.at.returns-in-Some-clause-emptied c).After-release)
     ∙ changed-found number_of f spot.carrier (λ y. refl) x c.self.inside.carriers.contents there in
     let found = found-multi _ _ c.self.inside.own c.release.new.self c.self.inside.singles
-    c.self.inside.created (kept-released _ _ _ _ _ _ c.self.invariant spot _ c.self.view_is
+    c.self.inside.created _ (kept-released _ _ _ _ _ _ _ c.self.invariant spot _ c.self.view_is
     (sym c.find_multi.ensures.there ∙ ap is_some c.in-Some.is) _ (told
     (goal.at.returns-in-Some-clause-emptied c).After-release)) _ refl spot.carrier (f x) now in
     let laid = item_at-All number_of IsLaidOut spot.carrier x c.self.inside.carriers.contents
@@ -96,7 +102,7 @@ returns-in-Some-clause-emptied c =
 pub returns-in-Some-clause-gone : goal.returns-in-Some-clause-gone
 returns-in-Some-clause-gone c =
     let spot = c.args.spot in
-    ap (λ i. block_in (employed i) spot) (seen-released _ _ _ _ _ _ c.self.invariant spot _
+    ap (λ i. block_in (employed i) spot) (seen-released _ _ _ _ _ _ _ c.self.invariant spot _
     c.self.view_is
     (sym c.find_multi.ensures.there ∙ ap is_some c.in-Some.is) _ (told
     (goal.at.returns-in-Some-clause-gone c).After-release))
@@ -105,7 +111,8 @@ returns-in-Some-clause-gone c =
 pub returns-in-Some-clause-others : goal.returns-in-Some-clause-others
 returns-in-Some-clause-others c =
     let spot = c.args.spot in
-    λ at other. ap (λ i. block_in (employed i) at) (seen-released _ _ _ _ _ _ c.self.invariant spot
+    λ at other. ap (λ i. block_in (employed i) at) (seen-released _ _ _ _ _ _ _ c.self.invariant
+    spot
     _ c.self.view_is
     (sym c.find_multi.ensures.there ∙ ap is_some c.in-Some.is) _ (told
     (goal.at.returns-in-Some-clause-others c).After-release))
@@ -114,38 +121,39 @@ returns-in-Some-clause-others c =
 pub release-requires-2-clause-block : goal.release-requires-2-clause-block
 release-requires-2-clause-block c =
     let spot = c.args.spot in
-    let none = multi-none _ _ _ _ _ _ c.self.invariant _ c.self.view_is spot.carrier
+    let none = multi-none _ _ _ _ _ _ _ c.self.invariant _ c.self.view_is spot.carrier
     (sym c.find_multi.ensures.there ∙ ap is_some c.in_default.is) in
     let some = subst IsSome
     (sym (ap (λ i. block_in (employed i) spot) c.self.view_is)
-    ∙ block-single _ _ _ _ _ _ c.self.invariant spot none) c.requires in
+    ∙ block-single _ _ _ _ _ _ _ c.self.invariant spot none) c.requires in
     some
 
 pub invariant_of-self-2 : goal.invariant_of-self-2
 invariant_of-self-2 c =
     let spot = c.args.spot in
-    kept-single-released _ _ _ _ _ _ c.self.invariant spot _ c.self.view_is
+    kept-single-released _ _ _ _ _ _ _ c.self.invariant spot _ c.self.view_is
     (sym c.find_multi.ensures.there ∙ ap is_some c.in_default.is) _ c.release-2.ensures
 
 pub returns-clause-released : goal.returns-clause-released
 returns-clause-released c =
     let spot = c.args.spot in
-    seen-single-released _ _ _ _ _ _ c.self.invariant spot _ c.self.view_is
+    seen-single-released _ _ _ _ _ _ _ c.self.invariant spot _ c.self.view_is
     (sym c.find_multi.ensures.there ∙ ap is_some c.in_default.is) _ c.release-2.ensures
 
 pub returns-clause-vacant : goal.returns-clause-vacant
 returns-clause-vacant c =
     let spot = c.args.spot in
-    let none = multi-none _ _ _ _ _ _ c.self.invariant _ c.self.view_is spot.carrier
+    let none = multi-none _ _ _ _ _ _ _ c.self.invariant _ c.self.view_is spot.carrier
     (sym c.find_multi.ensures.there ∙ ap is_some c.in_default.is) in
     let some = subst IsSome
     (sym (ap (λ i. block_in (employed i) spot) c.self.view_is)
-    ∙ block-single _ _ _ _ _ _ c.self.invariant spot none) c.requires in
+    ∙ block-single _ _ _ _ _ _ _ c.self.invariant spot none) c.requires in
     let ss = c.self.inside.singles in
     let (y, there, block) = some-content ss spot some in
     let f : Content → Content = λ x. released x spot.offset in
     let found = found-single _ _ c.self.inside.own c.self.inside.carriers c.release-2.new.self
-    c.self.inside.created (kept-single-released _ _ _ _ _ _ c.self.invariant spot _ c.self.view_is
+    c.self.inside.created _ (kept-single-released _ _ _ _ _ _ _ c.self.invariant spot _
+    c.self.view_is
     (sym c.find_multi.ensures.there ∙ ap is_some c.in_default.is) _ c.release-2.ensures) _ refl
     spot.carrier none
     ∙ ap (λ cs. content_of cs spot.carrier) c.release-2.ensures
@@ -158,16 +166,17 @@ returns-clause-vacant c =
 pub returns-clause-emptied : goal.returns-clause-emptied
 returns-clause-emptied c =
     let spot = c.args.spot in
-    let none = multi-none _ _ _ _ _ _ c.self.invariant _ c.self.view_is spot.carrier
+    let none = multi-none _ _ _ _ _ _ _ c.self.invariant _ c.self.view_is spot.carrier
     (sym c.find_multi.ensures.there ∙ ap is_some c.in_default.is) in
     let some = subst IsSome
     (sym (ap (λ i. block_in (employed i) spot) c.self.view_is)
-    ∙ block-single _ _ _ _ _ _ c.self.invariant spot none) c.requires in
+    ∙ block-single _ _ _ _ _ _ _ c.self.invariant spot none) c.requires in
     let ss = c.self.inside.singles in
     let (y, there, block) = some-content ss spot some in
     let f : Content → Content = λ x. released x spot.offset in
     let found = found-single _ _ c.self.inside.own c.self.inside.carriers c.release-2.new.self
-    c.self.inside.created (kept-single-released _ _ _ _ _ _ c.self.invariant spot _ c.self.view_is
+    c.self.inside.created _ (kept-single-released _ _ _ _ _ _ _ c.self.invariant spot _
+    c.self.view_is
     (sym c.find_multi.ensures.there ∙ ap is_some c.in_default.is) _ c.release-2.ensures) _ refl
     spot.carrier none
     ∙ ap (λ cs. content_of cs spot.carrier) c.release-2.ensures
@@ -179,7 +188,7 @@ returns-clause-emptied c =
 pub returns-clause-gone : goal.returns-clause-gone
 returns-clause-gone c =
     let spot = c.args.spot in
-    ap (λ i. block_in (employed i) spot) (seen-single-released _ _ _ _ _ _ c.self.invariant spot _
+    ap (λ i. block_in (employed i) spot) (seen-single-released _ _ _ _ _ _ _ c.self.invariant spot _
     c.self.view_is
     (sym c.find_multi.ensures.there ∙ ap is_some c.in_default.is) _ c.release-2.ensures)
     ∙ releasing-gone c.args.self.now spot
@@ -187,7 +196,7 @@ returns-clause-gone c =
 pub returns-clause-others : goal.returns-clause-others
 returns-clause-others c =
     let spot = c.args.spot in
-    λ at other. ap (λ i. block_in (employed i) at) (seen-single-released _ _ _ _ _ _
+    λ at other. ap (λ i. block_in (employed i) at) (seen-single-released _ _ _ _ _ _ _
     c.self.invariant spot _ c.self.view_is
     (sym c.find_multi.ensures.there ∙ ap is_some c.in_default.is) _ c.release-2.ensures)
     ∙ releasing-others c.args.self.now spot at other

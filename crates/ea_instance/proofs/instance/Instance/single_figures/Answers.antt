@@ -10,14 +10,14 @@ pub returns-clause-few : goal.returns-clause-few
 returns-clause-few c =
     omega (
       arith,
-      kept-few _ _ _ _ _ _ c.self.invariant,
+      kept-few _ _ _ _ _ _ _ c.self.invariant,
       ap (λ (f : Figures). f.carriers) c.figures.ensures,
     )
 
 pub returns-clause-blocks : goal.returns-clause-blocks
 returns-clause-blocks c = omega (
   arith,
-  kept-few _ _ _ _ _ _ c.self.invariant,
+  kept-few _ _ _ _ _ _ _ c.self.invariant,
   ap (λ (f : Figures). f.blocks) c.figures.ensures,
   alone-blocks c.self.inside.singles c.self.invariant.stands.orderly.alone,
 )
@@ -25,7 +25,7 @@ returns-clause-blocks c = omega (
 pub returns-clause-small : goal.returns-clause-small
 returns-clause-small c =
     let both = single-bounded _ c.self.invariant.stands in
-    let few = kept-few _ _ _ _ _ _ c.self.invariant in (
+    let few = kept-few _ _ _ _ _ _ _ c.self.invariant in (
       omega (
         arith,
         few,

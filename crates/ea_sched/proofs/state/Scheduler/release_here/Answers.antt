@@ -38,13 +38,13 @@ returns-then-due-clause-turned c = λ at.
     let q = c.hand_out-content-then-due.ensures.content in
     let same = ap (λ (j : Instance). j.settings) c.release-is_vacant.ensures.released
     ∙ c.requires.settings in
-    let due = subst (λ o. IfSome o (λ z. c.due.result ≡ is_due i.settings i.contents z)) q
+    let due = subst (λ o. IfSome o (λ z. c.due.result ≡ is_due i.settings i.count i.contents z)) q
     c.due.ensures in
     due-released (setup_for s) s.number c.args.hand c.args.gone c.first_gone-gone.result
     (standing_at at s) i c.release-is_vacant.ensures.released
     c.first_gone-gone.ensures y c.hand_out-content-then-due.new.self q
     c.hand_out-content-then-due.ensures.rest
-    (ap (λ (x : Settings). is_due x i.contents y) (sym same) ∙ sym due ∙ c.if-due.true)
+    (ap (λ (x : Settings). is_due x i.count i.contents y) (sym same) ∙ sym due ∙ c.if-due.true)
 
 pub returns-clause-turned : goal.returns-clause-turned
 returns-clause-turned c = λ at.
@@ -56,9 +56,9 @@ returns-clause-turned c = λ at.
     (has-after s.instance c.args.hand.spot c.requires.block)) in
     let same = ap (λ (j : Instance). j.settings) c.release-is_vacant.ensures.released
     ∙ c.requires.settings in
-    let due = subst (λ o. IfSome o (λ z. c.due.result ≡ is_due i.settings i.contents z)) q
+    let due = subst (λ o. IfSome o (λ z. c.due.result ≡ is_due i.settings i.count i.contents z)) q
     c.due.ensures in
     stays-released (setup_for s) s.number c.args.hand c.args.gone c.first_gone-gone.result
     (standing_at at s) i c.release-is_vacant.ensures.released
     c.first_gone-gone.ensures x q (sym c.release-is_vacant.ensures.vacant ∙ c.if-is_vacant.false)
-    (ap (λ (y : Settings). is_due y i.contents x) (sym same) ∙ sym due ∙ c.if-due.false)
+    (ap (λ (y : Settings). is_due y i.count i.contents x) (sym same) ∙ sym due ∙ c.if-due.false)

@@ -1,15 +1,15 @@
 use Rattle.std.proofs.Common.{refl, sym, ap, subst, ◌∙◌}
 use Rattle.std.specs.Prelude.{IfSome, IsSome}
 use Rattle.std.proofs.lemmas.Result.{on_err_weaker}
-use Rattle.ea_model.specs.Instance.{Instance, chosen_spot, employed, own_at}
+use Rattle.ea_model.specs.Instance.{Instance, chosen_spot, employed, own_at, refilled}
 use Rattle.ea_laws.specs.Spots.{IsPlaced}
-use Rattle.ea_machine.specs.Placements.{search_if}
+use Rattle.ea_machine.specs.Placements.{new_carrier, search_if}
 use Rattle.ea_machine.specs.Setup.{migration}
 use Rattle.ea_sched.specs.Acting.{ready_of, setup_for}
 use Rattle.ea_sched.proofs.Acts.{chosen-place, plans-as, planned-from, made-as}
 use Rattle.ea_sched.proofs.Acts.{stood-placed, unplaced}
 use Rattle.ea_sound.proofs.Paths.{seek-chosen}
-use Rattle.ea_sched.proofs.Placing.{seek-beyond}
+use Rattle.ea_sched.proofs.Placing.{seek-alone, seek-beyond}
 use Rattle.ea_sched.proofs.OwnCarriers.{asked-again, placed-block, placing-own}
 use Rattle.ea_sched.proofs.state.Scheduler.seek.Goals as goal
 
@@ -26,6 +26,26 @@ returns-in-Some-clause-actor c =
     ∙ sym (seek-chosen (setup_for s) s.number (ready_of s) ask spot
     (sym c.is_alone.ensures ∙ c.if-is_alone.false) chosen)
 
+pub returns-then-is_alone-clause-actor : goal.returns-then-is_alone-clause-actor
+returns-then-is_alone-clause-actor c =
+    let s = c.args.self.now in
+    let e = setup_for s in
+    let ask = c.args.ask in
+    made-as c.seek_new.result _ c.seek_new.ensures.actor
+    (ap (λ i. new_carrier e s.number ask 0 (record (ready_of s) { instance = i })) c.refill.ensures
+    ∙ sym (seek-alone e s.number (ready_of s) ask (sym c.is_alone.ensures ∙ c.if-is_alone.true)))
+
+pub returns-then-is_alone-clause-memory : goal.returns-then-is_alone-clause-memory
+returns-then-is_alone-clause-memory c =
+    let s = c.args.self.now in
+    let e = setup_for s in
+    let ask = c.args.ask in
+    plans-as c.seek_new.result s
+    (on_err_weaker c.seek_new.result (planned-from c.refill.new.self s.instance _
+    (ap (λ (i : Instance). i.created) c.refill.ensures)) c.seek_new.ensures.memory)
+    (ap (λ i. new_carrier e s.number ask 0 (record (ready_of s) { instance = i })) c.refill.ensures
+    ∙ sym (seek-alone e s.number (ready_of s) ask (sym c.is_alone.ensures ∙ c.if-is_alone.true)))
+
 pub returns-in-None-clause-actor : goal.returns-in-None-clause-actor
 returns-in-None-clause-actor c =
     let s = c.args.self.now in
@@ -35,7 +55,8 @@ returns-in-None-clause-actor c =
     (chosen_spot s.instance ask.need) ask.need ask.name
     (sym c.try_alloc.ensures.place ∙ c.in-None.is) c.try_alloc.ensures.placed in
     made-as c.seek_beyond.result _ c.seek_beyond.ensures.actor
-    (ap (λ i. search_if e s.number ask (record (ready_of s) { instance = i }) (migration e)) same
+    (ap (λ i. search_if e s.number ask (record (ready_of s) { instance = i }) (migration e))
+    (c.refill-in-None.ensures ∙ ap refilled same)
     ∙ sym (seek-beyond e s.number (ready_of s) ask
     (sym c.is_alone.ensures ∙ c.if-is_alone.false) none))
 
@@ -63,8 +84,10 @@ returns-in-None-clause-memory c =
     (chosen_spot s.instance ask.need) ask.need ask.name
     (sym c.try_alloc.ensures.place ∙ c.in-None.is) c.try_alloc.ensures.placed in
     plans-as c.seek_beyond.result s
-    (on_err_weaker c.seek_beyond.result (planned-from c.try_alloc.new.self s.instance _
-    (ap (λ (i : Instance). i.created) same)) c.seek_beyond.ensures.memory)
-    (ap (λ i. search_if e s.number ask (record (ready_of s) { instance = i }) (migration e)) same
+    (on_err_weaker c.seek_beyond.result (planned-from c.refill-in-None.new.self s.instance _
+    (ap (λ (i : Instance). i.created) (c.refill-in-None.ensures ∙ ap refilled same)))
+    c.seek_beyond.ensures.memory)
+    (ap (λ i. search_if e s.number ask (record (ready_of s) { instance = i }) (migration e))
+    (c.refill-in-None.ensures ∙ ap refilled same)
     ∙ sym (seek-beyond e s.number (ready_of s) ask
     (sym c.is_alone.ensures ∙ c.if-is_alone.false) none))

@@ -1,11 +1,11 @@
 use Rattle.std.proofs.Common.{◌≡◌, ◌+◌, length, sym, ap, ◌∙◌, subst, arith}
 use Rattle.std.specs.Prelude.{IfSome}
-use Rattle.ea_model.specs.Region.{lowest_run, runs_of, with_segment, Laid}
+use Rattle.ea_model.specs.Region.{place_in, runs_of, with_segment, Laid}
 use Rattle.ea_model.proofs.Rising.{length-entered}
 use Rattle.ea_laws.proofs.Segments.{Laid-entered, start_of}
 use Rattle.ea_laws.proofs.Tails.{IsTail-entered, IsTail-entered_other}
 use Rattle.ea_model.specs.Region.{IsTail}
-use Rattle.ea_laws.proofs.FreeRuns.{Fits, lowest-Fits}
+use Rattle.ea_laws.proofs.FreeRuns.{Fits, place-Fits}
 use Rattle.ea_space.proofs.region.Region.take.Goals as goal
 
 fits : (c : goal.After-enter_within)
@@ -13,8 +13,9 @@ fits : (c : goal.After-enter_within)
 fits c =
     let now = c.self.inside in
     subst (λ o. IfSome o (λ base. Fits now.first now.end base c.args.pages now.taken.items))
-    (ap (λ r. lowest_run c.args.pages (runs_of r)) c.self.view_is ∙ c.requires.found)
-    (lowest-Fits now.first now.end c.args.pages now.taken.items c.self.invariant.laid)
+    (ap (λ r. place_in c.requires.found.0 c.args.pages (runs_of r)) c.self.view_is
+    ∙ c.requires.found.1)
+    (place-Fits c.requires.found.0 now.first now.end c.args.pages now.taken.items c.self.invariant.laid)
 
 laid : (c : goal.After-enter_within) → Laid c.self.inside.first c.self.inside.end
     (with_segment (record { base = c.args.base; pages = c.args.pages }) c.self.inside.taken.items)
