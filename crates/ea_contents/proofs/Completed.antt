@@ -1,37 +1,31 @@
 -- After a completed schedule every scheduler has ended, whatever its writes and reads.
-use Rattle.std.proofs.Common.{◌≡◌, ◌⊎◌, ℕ, zero, suc, ◌+◌, ◌<◌, ◌≤◌, List, [], ◌∷◌, ◌++◌}
-use Rattle.std.proofs.Common.{true, refl, sym, ap, ◌∙◌, subst, inl, inr, arith, length}
+use Rattle.std.proofs.Common.{◌≡◌, ◌≢◌, ◌⊎◌, ℕ, ◌+◌, ◌≤◌, List, [], ◌∷◌, ◌++◌}
+use Rattle.std.proofs.Common.{true, false, refl, sym, ap, ◌∙◌, subst, inl, inr, arith, length}
 use Rattle.std.specs.Prelude.{◌&&◌, drop, nat_le, nat_lt}
 use Rattle.std.proofs.lemmas.Bool.{cases_Bool, cases_eq}
 use Rattle.ea_model.specs.declared.settings.Config.{Config}
 use Rattle.ea_model.specs.declared.trace.Trace.{Trace}
 use Rattle.ea_model.specs.Settings.{IsValidConfig}
 use Rattle.ea_model.specs.Trace.{IsValidTrace}
-use Rattle.ea_machine.specs.declared.stages.Stage.TheVariants.{Ended}
+use Rattle.ea_machine.specs.Actor.{Actor}
 use Rattle.ea_machine.specs.Machine.{run, step}
 use Rattle.ea_machine.specs.Setup.{Setup, is_scheduler, setup_of}
 use Rattle.ea_machine.specs.State.{State}
-use Rattle.ea_sound.proofs.Completing.{ended-on, outside}
+use Rattle.ea_sound.specs.Turns.{is_ended}
+use Rattle.ea_sound.proofs.Completing.{outside}
 use Rattle.ea_sound.proofs.Totals.{put-here, put-other}
-use Rattle.ea_sound.proofs.TurnLists.{ended-or, run-snoc, step-other}
+use Rattle.ea_sound.proofs.TurnLists.{ended-is, run-snoc, step-other}
+use Rattle.ea_play.specs.Plays.{Ends}
+use Rattle.ea_play.proofs.Ending.{by-turns, completes-all}
 use Rattle.ea_contents.specs.declared.access.Access.{Access}
 use Rattle.ea_contents.specs.declared.access.AccessEntry.{AccessEntry}
 use Rattle.ea_contents.specs.Entering.{entry_of, lists_by}
-use Rattle.ea_contents.specs.Model.{AllEnd, CompletesAll, Moment, Script, advanced, completing, done}
-use Rattle.ea_contents.specs.Model.{ending, finishing, opening, past_after, play, play_on, steps_in}
-use Rattle.ea_contents.specs.Model.{turn, turns_left, waiting}
-use Rattle.ea_contents.proofs.Endings.{EndsNone, EndsOne, ending-none, ending-one, ends-some}
-use Rattle.ea_contents.proofs.Endings.{some-left, turn-fewer}
-use Rattle.ea_contents.proofs.Moments.{after_access, is-less, not-less, past-other, play-append}
-use Rattle.ea_contents.proofs.Moments.{play-state, turn-made, turn-step}
-
--- who has something left after n has more than n
-more-than : (n : ℕ) (xs : List Access) (a : Access) (later : List Access)
-    → drop n xs ≡ a ∷ later → n < length xs
-more-than zero [] a later is = absurd cc
-more-than zero (x ∷ xs) a later is = omega arith
-more-than (suc n) [] a later is = absurd cc
-more-than (suc n) (x ∷ xs) a later is = omega (arith, more-than n xs a later is)
+use Rattle.ea_contents.specs.Model.{AllEnd, CompletesAll, Moment, Script, advanced, complete, done}
+use Rattle.ea_contents.specs.Model.{is_over, opening, over_by, past_after, play, play_of, turn}
+use Rattle.ea_contents.specs.Model.{waiting}
+use Rattle.ea_contents.proofs.Endings.{EndsNone, EndsOne, ends-some, more-than, turn-fewer}
+use Rattle.ea_contents.proofs.Moments.{after_access, is-less, not-less, over-both, over-turn}
+use Rattle.ea_contents.proofs.Moments.{past-other, turn-made, turn-step}
 
 module _ (c : Config) (t : Trace) (config : IsValidConfig c) (valid : IsValidTrace c.schedulers t)
     (script : Script) where
@@ -116,89 +110,69 @@ module _ (c : Config) (t : Trace) (config : IsValidConfig c) (valid : IsValidTra
         (made-played a later waits (lists_by e m.state i m.lists a)
         (entry_of e m.state i m.lists a))
 
-    turn-played : IsPlayed (turn e script m i)
-    turn-played = by-waiting (waiting e script m i) refl
+  turn-played : (m : Moment) (i : ℕ) → IsPlayed m → IsPlayed (turn e script m i)
+  turn-played m i played = by-waiting m i played (waiting e script m i) refl
 
-  turns-played : (m : Moment) (turns : List ℕ) → IsPlayed m → IsPlayed (play_on e script m turns)
-  turns-played m [] played = played
-  turns-played m (i ∷ turns) played =
-      turns-played (turn e script m i) turns (turn-played m i played)
+  turns-played : (turns : List ℕ) → IsPlayed (play e script turns)
+  turns-played turns =
+      by-turns (play_of e script) IsPlayed turn-played (opening e) turns opening-played
 
-  -- the scheduler has ended then
-  abbrev EndsAt : ℕ → Moment → Type 0
-  EndsAt i m = (m.state.actors i).stage ≡ Ended
+  -- who is over stays so
+  module _ (m : Moment) (i : ℕ) where
+    same-over : (n : Moment) → n.state.actors i ≡ m.state.actors i → n.past i ≡ m.past i
+        → is_over e script n i ≡ is_over e script m i
+    same-over n actor past =
+        ap (λ (a : Actor). over_by (is_ended a.stage)
+        (drop (n.past i) (script i (length a.log)))) actor
+        ∙ ap (λ k. over_by (is_ended (m.state.actors i).stage)
+        (drop k (script i (done m.state i)))) past
 
-  -- a scheduler that alone takes turns has ended after as many as are left to it, at most
-  ends : (most : ℕ) (m : Moment) (i : ℕ) → IsPlayed m
-      → turns_left e script m i ≤ most + m.past i
-      → EndsAt i (play_on e script m (ending e script most m i (m.state.actors i).stage))
-  ends zero m i played upto = elim (ended-or (m.state.actors i).stage) [
-    | inl ended ↦ ap (λ js. ((play_on e script m js).state.actors i).stage)
-        (ap (ending e script zero m i) ended ∙ ending-none e script i zero m) ∙ ended
-    | inr going ↦ absurd (omega (
-      arith,
-      upto,
-      some-left c t config valid script i m played.taken played.is (played.few i) going,
-    ))
-  ]
-  ends (suc most) m i played upto = elim (ended-or (m.state.actors i).stage) [
-    | inl ended ↦ ap (λ js. ((play_on e script m js).state.actors i).stage)
-        (ap (ending e script (suc most) m i) ended ∙ ending-none e script i (suc most) m) ∙ ended
-    | inr going ↦ ap (λ js. ((play_on e script m js).state.actors i).stage)
-        (ending-one e script i most m (m.state.actors i).stage going)
-        ∙ ends most (turn e script m i) i (turn-played m i played) (omega (
-          arith,
-          upto,
-          turn-fewer c t config valid script i m played.taken played.is (played.few i) going,
-        ))
-  ]
+    other-over : (j : ℕ) → i ≢ j → (xs : List Access) → waiting e script m j ≡ xs
+        → is_over e script (turn e script m j) i ≡ is_over e script m i
+    other-over j other [] none =
+        ap (λ n. is_over e script n i) (turn-step e script m j none)
+        ∙ same-over (advanced e m j) (step-other e m.state j i other) (past-other e
+        (nat_lt (done m.state j) (done (step e m.state j) j)) m.past j i other)
+    other-over j other (a ∷ later) waits =
+        ap (λ n. is_over e script n i) (turn-made e script m j a later waits)
+        ∙ same-over (after_access m j (lists_by e m.state j m.lists a)
+        (entry_of e m.state j m.lists a)) refl (put-other m.past j (m.past j + 1) i other)
 
-  finishes : (m : Moment) (i : ℕ) → IsPlayed m
-      → EndsAt i (play_on e script m (finishing e script m i))
-  finishes m i played = ends (turns_left e script m i) m i played (omega arith)
+    stays-over : (j : ℕ) → is_over e script m i ≡ true
+        → is_over e script (turn e script m j) i ≡ true
+    stays-over j over = elim (cases_eq i j) [
+      | inl same ↦ subst (λ k. is_over e script (turn e script m k) i ≡ true) same
+          (ap (λ n. is_over e script n i)
+          (over-turn e script m i over) ∙ over)
+      | inr other ↦ other-over j other (waiting e script m j) refl ∙ over
+    ]
 
-  -- who has ended stays so
-  stays : (m : Moment) (turns : List ℕ) (i : ℕ) → EndsAt i m → EndsAt i (play_on e script m turns)
-  stays m turns i ended =
-      ap (λ (w : State). (w.actors i).stage) (play-state e script m turns)
-      ∙ ended-on e m.state (steps_in e script m turns) i ended
-
-  -- one scheduler after another
-  completes : (count me : ℕ) (m : Moment) (j : ℕ) → IsPlayed m
-      → EndsAt j m ⊎ ((me ≤ j) × (j < me + count))
-      → EndsAt j (play_on e script m (completing e script count me m))
-  completes zero me m j played (inl ended) = ended
-  completes zero me m j played (inr within) = absurd (omega (arith, within.0, within.1))
-  completes (suc count) me m j played known =
-      let first = finishing e script m me in
-      let q = play_on e script m first in
-      ap (λ (v : Moment). (v.state.actors j).stage)
-      (play-append e script m first (completing e script count (suc me) q))
-      ∙ completes count (suc me) q j (turns-played m first played) (elim known [
-        | inl ended ↦ inl (stays m first j ended)
-        | inr within ↦ elim (cases_eq j me) [
-          | inl same ↦ inl (subst (λ i. EndsAt i q) (sym same) (finishes m me played))
-          | inr other ↦ inr (omega (arith, within.0, other), omega (arith, within.1))
-        ]
-      ])
+  pub play-ends : Ends (play_of e script)
+  play-ends = record {
+    less = λ turns i going. let m = play e script turns in
+        let played = turns-played turns in
+        turn-fewer c t config valid script i m played.taken played.is (played.few i) going;
+    stays = λ turns i j over. stays-over (play e script turns) i j over;
+  }
 
   from : (i n : ℕ) → (nat_lt 0 i && nat_le i n) ≡ true → 1 ≤ i
   from i n is = grind (arith, is)
 
-  upto : (i n : ℕ) → (nat_lt 0 i && nat_le i n) ≡ true → i < 1 + n
+  upto : (i n : ℕ) → (nat_lt 0 i && nat_le i n) ≡ true → i ≤ n
   upto i n is = grind (arith, is)
 
   all-ended : (turns : List ℕ) → CompletesAll e script turns
   all-ended turns i =
-      let m = play e script turns in
-      let played = turns-played (opening e) turns opening-played in
-      ap (λ (v : Moment). (v.state.actors i).stage)
-      (play-append e script (opening e) turns (completing e script e.schedulers 1 m))
-      ∙ completes e.schedulers 1 m i played (elim (cases_Bool (is_scheduler e i)) [
-        | inl is ↦ inr (from i e.schedulers is, upto i e.schedulers is)
-        | inr not ↦ inl (ap (λ (w : State). (w.actors i).stage) played.is
-            ∙ outside e i not played.taken)
-      ])
+      let last = complete e script turns in
+      let m = play e script last in
+      elim (cases_Bool (is_scheduler e i)) [
+        | inl is ↦ ended-is (m.state.actors i).stage (over-both (is_ended (m.state.actors i).stage)
+            (waiting e script m i) (completes-all (play_of e script) play-ends turns i
+            (from i e.schedulers is) (upto i e.schedulers is))).0
+        | inr not ↦
+            let played = turns-played last in
+            ap (λ (w : State). (w.actors i).stage) played.is ∙ outside e i not played.taken
+      ]
 
 pub all-end : AllEnd
 all-end c t config valid script turns = all-ended c t config valid script turns

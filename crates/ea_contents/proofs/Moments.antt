@@ -8,14 +8,16 @@ use Rattle.ea_machine.specs.Setup.{Setup}
 use Rattle.ea_machine.specs.Shared.{put}
 use Rattle.ea_machine.specs.State.{State}
 use Rattle.ea_sound.proofs.Totals.{put-other}
-use Rattle.ea_sound.proofs.TurnLists.{run-append, step-ended}
+use Rattle.ea_sound.specs.Turns.{is_ended}
+use Rattle.ea_sound.proofs.TurnLists.{ended-is, run-append, step-ended}
+use Rattle.ea_play.specs.Plays.{after_on}
 use Rattle.ea_contents.specs.declared.access.Access.{Access}
 use Rattle.ea_contents.specs.declared.access.Access.TheVariants.{Read, Write}
 use Rattle.ea_contents.specs.declared.access.AccessEntry.{AccessEntry}
 use Rattle.ea_contents.specs.declared.access.Making.{Making}
 use Rattle.ea_contents.specs.Model.{Moment, Script, accessed, advanced, done}
-use Rattle.ea_contents.specs.Model.{holds, if_new, is_within, lists_after}
-use Rattle.ea_contents.specs.Model.{lists_made, made, made_by, making_of, past_after, play_on}
+use Rattle.ea_contents.specs.Model.{holds, if_new, is_over, is_within, lists_after, over_by}
+use Rattle.ea_contents.specs.Model.{lists_made, made, made_by, making_of, past_after, play_of}
 use Rattle.ea_contents.specs.Model.{reading, steps_by, steps_in, turn, turn_by}
 use Rattle.ea_contents.specs.Model.{units_made, waiting, writing}
 use Rattle.ea_contents.specs.Entering.{entry_of, lists_by, lists_if, read_entry, write_entry}
@@ -61,6 +63,11 @@ parts m w v l k p q state lists past =
     ∙ ap (λ (x : ℕ → List ℕ). record m { state = v; lists = x; past = p }) lists
     ∙ ap (λ (x : ℕ → ℕ). record m { state = v; lists = k; past = x }) past
 
+pub over-both : (ended : Bool) (xs : List Access) → over_by ended xs ≡ true
+    → (ended ≡ true) × (xs ≡ [])
+over-both ended [] over = (over, refl)
+over-both ended (a ∷ later) over = absurd cc
+
 module _ (e : Setup) where
   pub accessed-is : (a : Access) (m : Moment) (i : ℕ) → accessed e a m i
       ≡ after_access m i (lists_by e m.state i m.lists a) (entry_of e m.state i m.lists a)
@@ -105,11 +112,6 @@ module _ (e : Setup) where
   past-other false past i j other = refl
 
   module _ (script : Script) where
-    pub play-append : (m : Moment) (xs ys : List ℕ)
-        → play_on e script m (xs ++ ys) ≡ play_on e script (play_on e script m xs) ys
-    play-append m [] ys = refl
-    play-append m (x ∷ xs) ys = play-append (turn e script m x) xs ys
-
     -- a turn by what waits
     pub turn-made : (m : Moment) (i : ℕ) (a : Access) (later : List Access)
         → waiting e script m i ≡ a ∷ later → turn e script m i
@@ -120,14 +122,19 @@ module _ (e : Setup) where
         → turn e script m i ≡ advanced e m i
     turn-step m i none = ap (λ xs. turn_by e xs m i) none
 
-    -- turns of a scheduler that has ended and has made all its writes and reads change nothing
-    pub play-over : (k : ℕ) (m : Moment) (i : ℕ) → waiting e script m i ≡ []
-        → (m.state.actors i).stage ≡ Ended → play_on e script m (replicate k i) ≡ m
-    play-over zero m i none ended = refl
-    play-over (suc k) m i none ended =
-        ap (λ (c : Moment). play_on e script c (replicate k i))
-        (turn-step m i none ∙ advanced-ended m i ended)
-        ∙ play-over k m i none ended
+    -- turns of a scheduler that is over change nothing
+    pub over-turn : (m : Moment) (i : ℕ) → is_over e script m i ≡ true → turn e script m i ≡ m
+    over-turn m i over =
+        let both = over-both (is_ended (m.state.actors i).stage) (waiting e script m i) over in
+        turn-step m i both.1
+        ∙ advanced-ended m i (ended-is (m.state.actors i).stage both.0)
+
+    pub play-over : (k : ℕ) (m : Moment) (i : ℕ) → is_over e script m i ≡ true
+        → after_on (play_of e script) m (replicate k i) ≡ m
+    play-over zero m i over = refl
+    play-over (suc k) m i over =
+        ap (λ (c : Moment). after_on (play_of e script) c (replicate k i)) (over-turn m i over)
+        ∙ play-over k m i over
 
     -- the state is that of the steps
     turn-state : (xs : List Access) (m : Moment) (i : ℕ)
@@ -135,7 +142,7 @@ module _ (e : Setup) where
     turn-state [] m i = refl
     turn-state (a ∷ later) m i = ap (λ (c : Moment). c.state) (accessed-is a m i)
 
-    pub play-state : (m : Moment) (turns : List ℕ) → (play_on e script m turns).state
+    pub play-state : (m : Moment) (turns : List ℕ) → (after_on (play_of e script) m turns).state
         ≡ run_on e m.state (steps_in e script m turns)
     play-state m [] = refl
     play-state m (i ∷ turns) =

@@ -1,8 +1,8 @@
 -- A play goes on: by one turn of a scheduler, by more of them, and to the end.
 use Rattle.std.proofs.Common.{◌≡◌, ◌≢◌, ◌⊎◌, ℕ, zero, suc, ◌+◌, ◌-◌, ◌<◌, ◌≤◌, List, [], ◌∷◌}
-use Rattle.std.proofs.Common.{◌++◌, true, refl, sym, ap, ◌∙◌, subst, inl, inr, arith, length}
+use Rattle.std.proofs.Common.{◌++◌, false, refl, sym, ap, ◌∙◌, subst, inl, inr, arith, length}
 use Rattle.std.proofs.Common.{get_or, set}
-use Rattle.std.specs.Prelude.{None, Some, drop, map, nat_lt, replicate}
+use Rattle.std.specs.Prelude.{None, Some, drop, map, nat_lt}
 use Rattle.std.specs.List.{range_with_len}
 use Rattle.std.proofs.lemmas.Bool.{cases_eq}
 use Rattle.std.proofs.lemmas.Grind.{get_or-set_at}
@@ -13,7 +13,6 @@ use Rattle.ea_model.specs.declared.trace.Trace.{Trace}
 use Rattle.ea_model.specs.Lists.{Items}
 use Rattle.ea_model.specs.Settings.{IsValidConfig}
 use Rattle.ea_model.specs.Trace.{IsScheduler, IsValidTrace, stop_in}
-use Rattle.ea_machine.specs.declared.stages.Stage.TheVariants.{Ended}
 use Rattle.ea_machine.specs.Actor.{Actor}
 use Rattle.ea_machine.specs.Completion.{work}
 use Rattle.ea_machine.specs.Machine.{run, step}
@@ -24,7 +23,7 @@ use Rattle.ea_machine.specs.State.{State}
 use Rattle.ea_machine.specs.Stops.{count_of, less, run_with_stops, stop_at, stop_of}
 use Rattle.ea_sound.specs.Turns.{is_ended}
 use Rattle.ea_sound.proofs.Totals.{put-here, put-other}
-use Rattle.ea_sound.proofs.TurnLists.{ended-is, run-snoc, step-other}
+use Rattle.ea_sound.proofs.TurnLists.{not-ended, run-snoc, step-other}
 use Rattle.ea_given.specs.Runs.{left_in}
 use Rattle.ea_sound.proofs.Stopping.{cut-none}
 use Rattle.ea_contents.specs.declared.access.Access.{Access}
@@ -32,14 +31,14 @@ use Rattle.ea_contents.specs.declared.access.AccessEntry.{AccessEntry}
 use Rattle.ea_contents.specs.declared.input.Placed.{Placed}
 use Rattle.ea_contents.specs.declared.playing.Play.{Play}
 use Rattle.ea_contents.specs.Entering.{entry_of, lists_by}
-use Rattle.ea_contents.specs.Model.{Moment, Script, advanced, done}
-use Rattle.ea_contents.specs.Model.{lists_after, past_after, play_on, turn, waiting}
+use Rattle.ea_contents.specs.Model.{Moment, Script, advanced, done, is_over, lists_after}
+use Rattle.ea_contents.specs.Model.{over_by, past_after, turn, waiting}
 use Rattle.ea_contents.specs.Placing.{IsAt, first_of, next_at}
 use Rattle.ea_contents.specs.Playing.{HasMade, PlayHas, PlaysAs, TellsOf, turns_to}
 use Rattle.ea_contents.specs.Script.{list_for, script_of}
 use Rattle.ea_contents.specs.Sessions.{HasStepped, StandsWith}
 use Rattle.ea_contents.proofs.Endings.{EndsNone, EndsOne, ends-some, steps-less}
-use Rattle.ea_contents.proofs.Moments.{after_access, is-less, not-less, past-other, play-over}
+use Rattle.ea_contents.proofs.Moments.{after_access, is-less, not-less, past-other}
 use Rattle.ea_contents.proofs.Moments.{turn-made, turn-step}
 use Rattle.ea_contents.proofs.Places.{at-made, at-next, at-same, first-is, first-none, first-some}
 use Rattle.ea_contents.proofs.Places.{within}
@@ -296,12 +295,6 @@ module _ (c : Config) (t : Trace) (ss : List (List Placed)) (m : Moment) (p : Pl
       step-stands = subst (λ n. PlaysAs c t ss n q)
           (sym (turn-step e script m i (first-none (waiting e script m i) none))) after-step
 
-    -- turns after its end change nothing
-    pub rests-stays : (k : ℕ) → is_ended (m.state.actors i).stage ≡ true
-        → first_of (waiting e script m i) ≡ None → play_on e script m (replicate k i) ≡ m
-    rests-stays k ended none = play-over e script k m i
-        (first-none (waiting e script m i) none) (ended-is (m.state.actors i).stage ended)
-
     -- the turns that it has left, as its fields tell it
     all-taken : run_with_stops e at.taken ≡ run e at.taken
     all-taken = ap (run e) (cut-none e.stops no-stops at.taken)
@@ -319,19 +312,19 @@ module _ (c : Config) (t : Trace) (ss : List (List Placed)) (m : Moment) (p : Pl
         ∙ ap (λ xs. work e m.state i + (length (list_for ss i) - length xs)) (at.shown i mine)
 
     -- a turn leaves fewer
-    left-by : (xs : List Access) → waiting e script m i ≡ xs → (m.state.actors i).stage ≢ Ended
-        → (let n = turn e script m i in
-        work e n.state i + (length (list_for ss i) - length (n.shown i))
-        < work e m.state i + (length (list_for ss i) - length (m.shown i)))
-    left-by [] none going = subst (λ (n : Moment).
-        work e n.state i + (length (list_for ss i) - length (n.shown i))
-        < work e m.state i + (length (list_for ss i) - length (m.shown i)))
-        (sym (turn-step e script m i none))
-        (omega (arith, steps-less c t has-valid has-trace i at.taken m.state at.state going))
-    left-by (a ∷ later) waits going = subst (λ (n : Moment).
-        work e n.state i + (length (list_for ss i) - length (n.shown i))
-        < work e m.state i + (length (list_for ss i) - length (m.shown i)))
-        (sym (turn-made e script m i a later waits))
+    abbrev Fewer : Moment → Type 0
+    Fewer n = work e n.state i + (length (list_for ss i) - length (n.shown i))
+        < work e m.state i + (length (list_for ss i) - length (m.shown i))
+
+    left-by : (xs : List Access) → waiting e script m i ≡ xs
+        → over_by (is_ended (m.state.actors i).stage) xs ≡ false → Fewer (turn e script m i)
+    left-by [] none going = subst Fewer (sym (turn-step e script m i none))
+        (omega (
+          arith,
+          steps-less c t has-valid has-trace i at.taken m.state at.state
+              (not-ended (m.state.actors i).stage going),
+        ))
+    left-by (a ∷ later) waits going = subst Fewer (sym (turn-made e script m i a later waits))
         (omega (
           arith,
           within (list_for ss i) (length (m.shown i)) (done m.state i) (m.past i) place a
@@ -341,8 +334,5 @@ module _ (c : Config) (t : Trace) (ss : List (List Placed)) (m : Moment) (p : Pl
           length_push (m.shown i) (entry_of e m.state i m.lists a),
         ))
 
-    pub turn-left : (m.state.actors i).stage ≢ Ended
-        → (let n = turn e script m i in
-        work e n.state i + (length (list_for ss i) - length (n.shown i))
-        < work e m.state i + (length (list_for ss i) - length (m.shown i)))
+    pub turn-left : is_over e script m i ≡ false → Fewer (turn e script m i)
     turn-left going = left-by (waiting e script m i) refl going

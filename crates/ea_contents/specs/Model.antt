@@ -11,11 +11,8 @@ use Rattle.ea_model.specs.declared.operations.Op.{Op}
 use Rattle.ea_model.specs.declared.operations.Op.TheVariants as op
 use Rattle.ea_model.specs.declared.settings.Config.{Config}
 use Rattle.ea_model.specs.declared.trace.Trace.{Trace}
-use Rattle.ea_model.specs.Content.{Content}
 use Rattle.ea_model.specs.Settings.{IsValidConfig}
 use Rattle.ea_model.specs.Trace.{IsValidTrace}
-use Rattle.ea_machine.specs.declared.stages.Stage.{Stage}
-use Rattle.ea_machine.specs.declared.stages.Stage.TheVariants.{Ended}
 use Rattle.ea_machine.specs.Completion.{work}
 use Rattle.ea_machine.specs.Machine.{start, step}
 use Rattle.ea_machine.specs.Nodes.{named_at}
@@ -24,6 +21,9 @@ use Rattle.ea_machine.specs.Shared.{put}
 use Rattle.ea_machine.specs.State.{State}
 use Rattle.ea_sound.specs.Over.{units_named}
 use Rattle.ea_sound.specs.Progress.{AllEnded}
+use Rattle.ea_sound.specs.Turns.{is_ended}
+use Rattle.ea_play.specs.Plays.{Play, after}
+use Rattle.ea_play.specs.Plays as plays
 use Rattle.ea_contents.specs.declared.access.Access.{Access}
 use Rattle.ea_contents.specs.declared.access.Access.TheVariants.{Read, Write}
 use Rattle.ea_contents.specs.declared.access.AccessEntry.{AccessEntry}
@@ -134,6 +134,11 @@ reading false within name index c i = record c {
   shown = put c.shown i (c.shown i ++ ReadSkipped name ∷ []);
 }
 
+-- whether a scheduler is over: it has ended, and none of these waits
+abbrev pub over_by : Bool → List Access → Bool
+over_by ended [] = ended
+over_by ended (a ∷ later) = false
+
 module _ (setup : Setup) where
   -- whether the index is that of a word of the name: a block of k units has the words 0 to k - 2
   abbrev pub is_within : State → ℕ → ℕ → Bool
@@ -182,14 +187,6 @@ module _ (setup : Setup) where
   abbrev pub turn : Script → Moment → ℕ → Moment
   turn script c i = turn_by (waiting script c i) c i
 
-  -- turns of these schedulers, one after another
-  abbrev pub play_on : Script → Moment → List ℕ → Moment
-  play_on script c [] = c
-  play_on script c (i ∷ turns) = play_on script (turn script c i) turns
-
-  abbrev pub play : Script → List ℕ → Moment
-  play script turns = play_on script (opening setup) turns
-
   -- of these turns those that are steps, in order
   abbrev pub steps_by : List Access → ℕ → List ℕ
   steps_by [] i = i ∷ []
@@ -208,28 +205,29 @@ module _ (setup : Setup) where
   -- the turns that a scheduler takes until it has ended, at most, if no other one takes any
   abbrev pub turns_left : Script → Moment → ℕ → ℕ
   turns_left script c i = work setup c.state i
-      + later_accesses script i (done c.state i) (length (c.state.actors i).todo)
+      + (later_accesses script i (done c.state i) (length (c.state.actors i).todo) - c.past i)
 
-  -- by whether it has ended; then its writes and reads are over, since they come before its last
-  -- steps
-  abbrev pub ending : Script → ℕ → Moment → ℕ → Stage Content → List ℕ
-  ending script most c i Ended = []
-  ending script zero c i stage = []
-  ending script (suc most) c i stage =
-      let d = turn script c i in i ∷ ending script most d i (d.state.actors i).stage
+  -- whether it has ended, and no write or read of it is next
+  abbrev pub is_over : Script → Moment → ℕ → Bool
+  is_over script c i =
+      over_by (is_ended (c.state.actors i).stage) (waiting script c i)
 
-  abbrev pub finishing : Script → Moment → ℕ → List ℕ
-  finishing script c i = ending script (turns_left script c i) c i (c.state.actors i).stage
+  abbrev pub play_of : Script → Play Moment
+  play_of script = record {
+    schedulers = setup.schedulers;
+    start = opening setup;
+    turn = turn script;
+    is_over = is_over script;
+    left = turns_left script;
+  }
 
-  abbrev pub completing : Script → ℕ → ℕ → Moment → List ℕ
-  completing script zero i c = []
-  completing script (suc count) i c = finishing script c i
-      ++ completing script count (suc i) (play_on script c (finishing script c i))
+  -- after these turns
+  abbrev pub play : Script → List ℕ → Moment
+  play script turns = after (play_of script) turns
 
   -- the turns of a schedule, then those of scheduler 1 until it has ended, up to the last one
   abbrev pub complete : Script → List ℕ → List ℕ
-  complete script turns =
-      turns ++ completing script setup.schedulers 1 (play script turns)
+  complete script turns = plays.complete (play_of script) turns
 
   abbrev pub end_of : Script → List ℕ → Moment
   end_of script turns = play script (complete script turns)

@@ -11,14 +11,15 @@ use Rattle.ea_machine.specs.Outcome.{outcome}
 use Rattle.ea_machine.specs.Setup.{Setup, setup_of}
 use Rattle.ea_machine.specs.State.{State}
 use Rattle.ea_given.specs.Runs.{left_in}
+use Rattle.ea_play.specs.Plays as plays
 use Rattle.ea_contents.specs.declared.access.Access.{Access}
 use Rattle.ea_contents.specs.declared.access.AccessEntry.{AccessEntry}
 use Rattle.ea_contents.specs.declared.input.Placed.{Placed}
 use Rattle.ea_contents.specs.declared.playing.Play.{Play}
 use Rattle.ea_contents.specs.declared.session.Session.{Session}
 use Rattle.ea_contents.specs.Entering.{entry_of, lists_by}
-use Rattle.ea_contents.specs.Model.{Moment, Script, complete, completing, done, finishing, opening}
-use Rattle.ea_contents.specs.Model.{play, play_on, steps_in}
+use Rattle.ea_contents.specs.Model.{Moment, Script, complete, done, opening, play, play_of}
+use Rattle.ea_contents.specs.Model.{steps_in, turn}
 use Rattle.ea_contents.specs.Placing.{IsAt}
 use Rattle.ea_contents.specs.Script.{list_for, script_of}
 use Rattle.ea_contents.specs.Sessions.{SessionGoes, SessionHas, SessionTells, StandsWith}
@@ -71,21 +72,11 @@ abbrev pub PlayTells : (Setup → Script → Moment → Type 0) → Play → Typ
 PlayTells P p = (c : Config) (t : Trace) (sections : List (List Placed)) (m : Moment)
     → PlaysAs c t sections m p → P (setup_of c t) (script_of sections) m
 
--- it has gone on by these turns of all kinds
-abbrev pub HasPlayed : (Setup → Script → Moment → List ℕ) → Play → Play → Type 0
-HasPlayed turns p q = (c : Config) (t : Trace) (sections : List (List Placed)) (m : Moment)
+-- it has gone on by a turn of a scheduler
+abbrev pub HasTurned : ℕ → Play → Play → Type 0
+HasTurned i p q = (c : Config) (t : Trace) (sections : List (List Placed)) (m : Moment)
     → PlaysAs c t sections m p
-    → PlaysAs c t sections
-    (play_on (setup_of c t) (script_of sections) m
-    (turns (setup_of c t) (script_of sections) m)) q
-
--- by those that a scheduler takes until it has ended
-abbrev pub HasPlayedOut : ℕ → Play → Play → Type 0
-HasPlayedOut i = HasPlayed (λ setup script m. finishing setup script m i)
-
--- by those that all take, one scheduler after another
-abbrev pub HasCompleted : Play → Play → Type 0
-HasCompleted = HasPlayed (λ setup script m. completing setup script setup.schedulers 1 m)
+    → PlaysAs c t sections (turn (setup_of c t) (script_of sections) m i) q
 
 -- it is what is printed of a state, by whatever turns the run came to it
 abbrev pub IsOutcome : Outcome → Setup → State → Type 0
@@ -96,3 +87,14 @@ abbrev pub turns_to : ℕ → Play → ℕ
 turns_to i p = left_in i p.session.run
     + (length (list_for (map (λ s. s.items) p.sections.now) i)
     - length (list_for (map (λ s. s.items) p.shown.items) i))
+
+-- whose play it is: the configuration, the trace and the sections
+abbrev pub Whose : Type 0
+Whose = Config × Trace × List (List Placed)
+
+abbrev pub play_for : Whose → plays.Play Moment
+play_for x = play_of (setup_of x.0 x.1) (script_of x.2)
+
+-- it is that play, after these turns of all kinds
+abbrev pub StandsAfter : Whose → List ℕ → Play → Type 0
+StandsAfter x turns = PlaysAs x.0 x.1 x.2 (play (setup_of x.0 x.1) (script_of x.2) turns)

@@ -1,18 +1,17 @@
 //! The run of an input with writes and reads: its turns of all kinds, one after another.
-ghost use Rattle.std.specs.Prelude.{◌≡◌, ◌&&◌, true, [], ◌∷◌, All, IfOk, OnOk, Some};
-ghost use Rattle.std.specs.Prelude.{drop, flat_map, is_none, length, map, replicate};
+ghost use Rattle.std.specs.Prelude.{◌≡◌, true, [], All, IfOk, OnOk, Some};
+ghost use Rattle.std.specs.Prelude.{drop, length, map, replicate};
 ghost use Rattle.std.specs.List.{range_with_len};
 ghost use Rattle.ea_model.specs.Outcome.{plain_outcome};
 ghost use Rattle.ea_model.specs.Settings.{IsValidConfig};
 ghost use Rattle.ea_model.specs.Trace.{IsValidTrace, is_scheduled};
 ghost use Rattle.ea_machine.specs.Completion.{turns_in};
 ghost use Rattle.ea_machine.specs.Setup.{setup_of};
-ghost use Rattle.ea_sound.specs.Turns.{is_ended};
 ghost use Rattle.ea_contents.specs.declared.access.Access.TheVariants.{Read, Write};
 ghost use Rattle.ea_contents.specs.Model.{opening, waiting};
 ghost use Rattle.ea_contents.specs.Placing.{first_of, next_at};
-ghost use Rattle.ea_contents.specs.Playing.{HasCompleted, HasMade, HasPlayed, HasPlayedOut};
-ghost use Rattle.ea_contents.specs.Playing.{IsOutcome, IsPlay, PlayHas, PlayTells, PlaysAs};
+ghost use Rattle.ea_contents.specs.Playing.{HasMade, HasTurned, IsOutcome, IsPlay, PlayHas};
+ghost use Rattle.ea_contents.specs.Playing.{PlayTells, PlaysAs};
 ghost use Rattle.ea_contents.specs.Playing.{TellsOf, outcome_played, shown_played};
 ghost use Rattle.ea_contents.specs.Script.{IsRising, script_of, sections_of};
 ghost use Rattle.ea_contents.specs.Sessions.{IsSession, SessionHas};
@@ -20,7 +19,8 @@ ghost use Rattle.ea_contents.specs.Sessions.{IsSession, SessionHas};
 use crate::access::{Access, AccessEntry};
 use crate::input::{ContentsInput, Placed};
 use crate::session::Session;
-use ea_model::{Config, List, OutOfMemory, Outcome, Turns};
+use ea_model::{Config, List, OutOfMemory, Outcome};
+use ea_play::{Plays, complete, take_schedule};
 use std::alloc::Global;
 
 /// What is printed of a run with writes and reads.
@@ -151,91 +151,10 @@ impl<'t> Play<'t> {
         requires scheduler { PlayHas me self.old }
         requires waits { PlayTells (λ setup script m.
             first_of (waiting setup script m me) ≡ Some next) self.old }
-        ensures { OnOk result (HasPlayed (λ setup script m. me ∷ []) self.old self.new) }
+        ensures { OnOk result (HasTurned me self.old self.new) }
     {
         let entry = access(&mut self.session, me, next);
         self.shown[me as usize - 1].push(entry)
-    }
-
-    /// One turn of a scheduler.
-    fn turn(&mut self, alloc: Global, me: u32) -> Result<(), OutOfMemory>
-        requires stands { IsPlay self.old }
-        requires scheduler { PlayHas me self.old }
-        ensures { OnOk result (HasPlayed (λ setup script m. me ∷ []) self.old self.new) }
-    {
-        match self.waiting(me) {
-            Some(next) => self.make(me, next),
-            None => self.session.turn(alloc, me),
-        }
-    }
-
-    /// Whether further turns of a scheduler change nothing: it has ended, and none of its writes
-    /// and reads is next.
-    fn rests(&self, me: u32) -> bool
-        requires stands { IsPlay self.now }
-        requires scheduler { PlayHas me self.now }
-        ensures { PlayTells (λ setup script m. result
-            ≡ (is_ended (m.state.actors me).stage
-            && is_none (first_of (waiting setup script m me)))) self.now }
-    {
-        if !self.session.ended(me) {
-            return false;
-        }
-        self.waiting(me).is_none()
-    }
-
-    /// That many turns of a scheduler. Those that change nothing are left out.
-    fn take(&mut self, alloc: Global, me: u32, count: u32) -> Result<(), OutOfMemory>
-        requires stands { IsPlay self.old }
-        requires scheduler { PlayHas me self.old }
-        ensures { OnOk result (HasPlayed (λ setup script m. replicate count me) self.old self.new) }
-    {
-        let mut left = count;
-        while left > 0 {
-            if self.rests(me) {
-                return Ok(());
-            }
-            self.turn(alloc, me)?;
-            left -= 1;
-        }
-        Ok(())
-    }
-
-    /// The turns of a schedule.
-    fn take_all(&mut self, alloc: Global, schedule: &[Turns]) -> Result<(), OutOfMemory>
-        requires stands { IsPlay self.old }
-        requires theirs { All (λ t. PlayHas t.scheduler self.old) schedule.now }
-        ensures { OnOk result (HasPlayed (λ setup script m.
-            flat_map (λ t. replicate t.count t.scheduler) schedule.now) self.old self.new) }
-    {
-        for turns in schedule {
-            self.take(alloc, turns.scheduler, turns.count)?;
-        }
-        Ok(())
-    }
-
-    /// Turns of a scheduler until it has ended.
-    fn run_out(&mut self, alloc: Global, me: u32) -> Result<(), OutOfMemory>
-        requires stands { IsPlay self.old }
-        requires scheduler { PlayHas me self.old }
-        ensures { OnOk result (HasPlayedOut me self.old self.new) }
-    {
-        while !self.session.ended(me) {
-            self.turn(alloc, me)?;
-        }
-        Ok(())
-    }
-
-    /// Turns of scheduler 1 until it has ended, then of scheduler 2, up to the last one.
-    fn complete(&mut self, alloc: Global, schedulers: u32) -> Result<(), OutOfMemory>
-        requires stands { IsPlay self.old }
-        requires all { PlayTells (λ setup script m. schedulers ≡ setup.schedulers) self.old }
-        ensures { OnOk result (HasCompleted self.old self.new) }
-    {
-        for before in 0..schedulers {
-            self.run_out(alloc, before + 1)?;
-        }
-        Ok(())
     }
 
     /// What is printed of the play as it stands.
@@ -252,6 +171,34 @@ impl<'t> Play<'t> {
             outcome,
             shown: List::from_vec(self.shown),
         })
+    }
+}
+
+impl<'t> Plays for Play<'t> {
+    ghost use Rattle.ea_contents.specs.Model.{Moment};
+    ghost use Rattle.ea_contents.specs.Playing.{StandsAfter, Whose, play_for, turns_to};
+
+    ghost Whose = { Whose };
+
+    ghost State = { Moment };
+
+    ghost play = { play_for };
+
+    ghost stands = { StandsAfter };
+
+    ghost left = { turns_to };
+
+    /// One turn of a scheduler: its next write or read, or a step. None where it has ended.
+    fn go(&mut self, alloc: Global, me: u32, _most: u32) -> Result<u32, OutOfMemory> {
+        if let Some(next) = self.waiting(me) {
+            self.make(me, next)?;
+            return Ok(1);
+        }
+        if self.session.ended(me) {
+            return Ok(0);
+        }
+        self.session.turn(alloc, me)?;
+        Ok(1)
     }
 }
 
@@ -279,7 +226,7 @@ pub fn run_script(
         (turns_in input.now.trace.mode)) }
 {
     let mut play = Play::new(alloc, config, input)?;
-    play.take_all(alloc, input.trace.mode.turns_of())?;
-    play.complete(alloc, config.schedulers)?;
+    take_schedule(&mut play, alloc, input.trace.mode.turns_of())?;
+    complete(&mut play, alloc, config.schedulers)?;
     play.outcome(alloc)
 }

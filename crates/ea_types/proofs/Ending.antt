@@ -1,7 +1,9 @@
 -- After a completed schedule every scheduler has ended in each type.
-use Rattle.std.proofs.Common.{◌≡◌, ◌⊎◌, ℕ, zero, suc, ◌+◌, ◌<◌, ◌≤◌, List, []}
-use Rattle.std.proofs.Common.{true, refl, sym, ap, ◌∙◌, subst, inl, inr, arith, length}
-use Rattle.std.specs.Prelude.{◌&&◌, All, Option, Some, None, nat_le, nat_lt, slice_index_or}
+use Rattle.std.proofs.Common.{◌≡◌, ◌≢◌, ℕ, zero, suc, ◌<◌, ◌≤◌, List, [], ◌++◌}
+use Rattle.std.proofs.Common.{true, false, refl, sym, ap, ◌∙◌, subst, inl, inr, arith, length}
+use Rattle.std.specs.Prelude.{◌&&◌, All, Option, Some, None, get_or, is_none, nat_le, nat_lt}
+use Rattle.std.specs.Prelude.{slice_index_or}
+use Rattle.std.specs.List.{range_with_len}
 use Rattle.std.proofs.lemmas.Bool.{cases_Bool, cases_eq, cases_lt}
 use Rattle.std.proofs.lemmas.List.{get_or_past}
 use Rattle.std.proofs.lemmas.List.Elements.{All-nil}
@@ -9,86 +11,91 @@ use Rattle.ea_model.specs.declared.settings.Config.{Config}
 use Rattle.ea_model.specs.declared.trace.Trace.{Trace}
 use Rattle.ea_model.specs.Settings.{IsValidConfig}
 use Rattle.ea_model.specs.Trace.{IsValidTrace}
-use Rattle.ea_machine.specs.declared.stages.Stage.TheVariants.{Ended}
+use Rattle.ea_machine.specs.Machine.{step}
 use Rattle.ea_machine.specs.Setup.{is_scheduler, setup_of}
 use Rattle.ea_machine.specs.State.{State}
+use Rattle.ea_sound.specs.Turns.{is_ended}
 use Rattle.ea_sound.proofs.Asked.{reached-rule}
 use Rattle.ea_sound.proofs.Completing.{outside, rule-less}
+use Rattle.ea_sound.proofs.Totals.{put-other}
+use Rattle.ea_sound.proofs.TurnLists.{ended-is}
+use Rattle.ea_given.specs.Runs.{log_length}
+use Rattle.ea_play.specs.Plays.{Ends}
+use Rattle.ea_play.proofs.Ending.{by-turns, completes-all}
 use Rattle.ea_types.specs.Courses.{AllEnd, AreParts, lines_for, types_of}
-use Rattle.ea_types.specs.Turning.{AllComeToEnds, Standing, Types, all_work, at_start, completing}
-use Rattle.ea_types.specs.Turning.{ending, finishing, own_turns, stands_after, turn_of}
-use Rattle.ea_types.specs.Turning.{turned_by, turned_in, turned_on}
+use Rattle.ea_types.specs.Turning.{AllComeToEnds, Standing, Types, all_work, at_start, complete}
+use Rattle.ea_types.specs.Turning.{first_going, lines_after, own_turns, play_of, stands_after}
+use Rattle.ea_types.specs.Turning.{turn_of, turned, turned_by}
 use Rattle.ea_types.proofs.OwnRuns.{are-own_runs}
-use Rattle.ea_types.proofs.Turns.{Fits, Lessens, ended-on, none-ended, step-fits, step-less}
-use Rattle.ea_types.proofs.Turns.{turn-in, turned-append, turns-fit}
+use Rattle.ea_types.proofs.Turns.{Fits, Lessens, ended-by, first-all, first-none, none-ended}
+use Rattle.ea_types.proofs.Turns.{step-less, turn-fits, turn-in}
 
-module _ (t : Types) (lessens : Lessens t) where
-  -- a scheduler that alone takes turns has none left after as many as it has work, at most
-  ends : (most : ℕ) (p : Standing) (me : ℕ) (o : Option ℕ) → turn_of t p me ≡ o → Fits t p
-      → all_work t p me ≤ most → turn_of t (turned_on t p (ending t most p me o)) me ≡ None
-  ends zero p me None is fits upto = is
-  ends (suc most) p me None is fits upto = is
-  ends zero p me (Some x) is fits upto =
-      let (there, going) = turn-in t p fits me x is in
-      absurd (omega (arith, upto, step-less t p fits me lessens x there going))
-  ends (suc most) p me (Some x) is fits upto =
-      let (there, going) = turn-in t p fits me x is in
-      let q = turned_in t p me x in
-      ap (λ v. turn_of t (turned_on t v (ending t most q me (turn_of t q me))) me)
-      (ap (turned_by t p me) is)
-      ∙ ends most q me (turn_of t q me) refl (step-fits t p fits me x)
-      (omega (arith, upto, step-less t p fits me lessens x there going))
+none-is : (o : Option ℕ) → is_none o ≡ true → o ≡ None
+none-is None is = refl
+none-is (Some x) is = absurd cc
 
-  -- so it has ended in each type
-  finishes : (p : Standing) (me x : ℕ) → Fits t p → x < t.types
-      → (((turned_on t p (finishing t p me)).states x).actors me).stage ≡ Ended
-  finishes p me x fits there = none-ended t (turned_on t p (finishing t p me))
-      (turns-fit t p (finishing t p me) fits) me
-      (ends (all_work t p me) p me (turn_of t p me) refl fits (omega arith)) x there
+-- who has ended in each type stays so
+module _ (t : Types) (p : Standing) (me j : ℕ) where
+  other-lines : (o : Option ℕ) → me ≢ j → (turned_by t p j o).lines me ≡ p.lines me
+  other-lines None other = refl
+  other-lines (Some y) other = put-other p.lines j
+      (lines_after (nat_lt (log_length (p.states y) j)
+      (log_length (step (t.setups y) (p.states y) j) j)) y (p.lines j)) me other
 
-  -- one scheduler after another
-  completes : (count me : ℕ) (p : Standing) (x j : ℕ) → Fits t p → x < t.types
-      → (((p.states x).actors j).stage ≡ Ended) ⊎ ((me ≤ j) × (j < me + count))
-      → (((turned_on t p (completing t count me p)).states x).actors j).stage ≡ Ended
-  completes zero me p x j fits there (inl ended) = ended
-  completes zero me p x j fits there (inr within) = absurd (omega (arith, within.0, within.1))
-  completes (suc count) me p x j fits there known =
-      let first = finishing t p me in
-      let q = turned_on t p first in
-      ap (λ (v : Standing). ((v.states x).actors j).stage)
-      (turned-append t p first (completing t count (suc me) q))
-      ∙ completes count (suc me) q x j (turns-fit t p first fits) there (elim known [
-        | inl ended ↦ inl (ended-on t x j p first ended)
-        | inr within ↦ elim (cases_eq j me) [
-          | inl same ↦ inl (subst (λ i. ((q.states x).actors i).stage ≡ Ended) (sym same)
-              (finishes p me x fits there))
-          | inr other ↦ inr (omega (arith, within.0, other), omega (arith, within.1))
+  stays-none : turn_of t p me ≡ None → turn_of t (turned t p j) me ≡ None
+  stays-none none = elim (cases_eq me j) [
+    | inl same ↦ subst (λ i. turn_of t (turned t p i) me ≡ None) same
+        (ap (λ o. turn_of t (turned_by t p me o) me) none ∙ none)
+    | inr other ↦
+        let q = turned t p j in
+        let xs = p.lines me ++ range_with_len 0 t.types in
+        ap (λ ls. first_going q.states me (ls ++ range_with_len 0 t.types))
+        (other-lines (turn_of t p j) other)
+        ∙ first-all q.states me xs (λ i d below. let x = get_or xs i d in
+        ap is_ended (ended-by t x me p j (turn_of t p j)
+        (ended-is ((p.states x).actors me).stage (first-none p.states me xs none i d below))))
+  ]
+
+module _ (t : Types) (fits : Fits t (at_start t)) where
+  pub fits-after : (turns : List ℕ) → Fits t (stands_after t turns)
+  fits-after turns = by-turns (play_of t) (Fits t) (turn-fits t) (at_start t) turns fits
+
+  module _ (lessens : Lessens t) where
+    by-turn : (p : Standing) → Fits t p → (me : ℕ) (o : Option ℕ) → turn_of t p me ≡ o
+        → is_none o ≡ false → all_work t (turned_by t p me o) me < all_work t p me
+    by-turn p has me None is going = absurd cc
+    by-turn p has me (Some x) is going =
+        let (there, goes) = turn-in t p has me x is in
+        step-less t p has me lessens x there goes
+
+    pub play-ends : Ends (play_of t)
+    play-ends = record {
+      less = λ turns me going. let p = stands_after t turns in
+          by-turn p (fits-after turns) me (turn_of t p me) refl going;
+      stays = λ turns me j over. let p = stands_after t turns in
+          ap is_none (stays-none t p me j (none-is (turn_of t p me) over));
+    }
+
+    -- all schedulers, if those of each type are as many
+    pub all-come_to_ends : ((x : ℕ) → x < t.types → (t.setups x).schedulers ≡ t.schedulers)
+        → AllComeToEnds t
+    all-come_to_ends many turns x me there =
+        let all = complete t turns in
+        let e = t.setups x in
+        elim (cases_Bool (is_scheduler e me)) [
+          | inl is ↦ none-ended t (stands_after t all) (fits-after all) me
+              (none-is (turn_of t (stands_after t all) me)
+              (completes-all (play_of t) play-ends turns me (from me e.schedulers is)
+              (upto me e.schedulers t.schedulers is (many x there)))) x there
+          | inr not ↦ ap (λ (w : State). (w.actors me).stage) (are-own_runs t x all)
+              ∙ outside e me not (own_turns t x all)
         ]
-      ])
+      where
+        from : (me n : ℕ) → (nat_lt 0 me && nat_le me n) ≡ true → 1 ≤ me
+        from me n is = grind (arith, is)
 
-  -- all schedulers, if those of each type are as many
-  pub all-come_to_ends : Fits t (at_start t)
-      → ((x : ℕ) → x < t.types → (t.setups x).schedulers ≡ t.schedulers) → AllComeToEnds t
-  all-come_to_ends fits many turns x me there =
-      let p = stands_after t turns in
-      let e = t.setups x in
-      ap (λ (v : Standing). ((v.states x).actors me).stage)
-      (turned-append t (at_start t) turns (completing t t.schedulers 1 p))
-      ∙ completes t.schedulers 1 p x me (turns-fit t (at_start t) turns fits) there
-      (elim (cases_Bool (is_scheduler e me)) [
-        | inl is ↦ inr (
-          from me e.schedulers is,
-          upto me e.schedulers t.schedulers is (many x there),
-        )
-        | inr not ↦ inl (ap (λ (w : State). (w.actors me).stage) (are-own_runs t x turns)
-            ∙ outside e me not (own_turns t x turns))
-      ])
-    where
-      from : (me n : ℕ) → (nat_lt 0 me && nat_le me n) ≡ true → 1 ≤ me
-      from me n is = grind (arith, is)
-
-      upto : (me n k : ℕ) → (nat_lt 0 me && nat_le me n) ≡ true → n ≡ k → me < 1 + k
-      upto me n k is same = grind (arith, is, same)
+        upto : (me n k : ℕ) → (nat_lt 0 me && nat_le me n) ≡ true → n ≡ k → me ≤ k
+        upto me n k is same = grind (arith, is, same)
 
 -- the lines that a run begins with are of its types
 first-lines : (n : ℕ) (parts : List (List ℕ)) → AreParts n parts
@@ -121,5 +128,5 @@ module _ (c : Config) (other : Trace) (traces : List Trace) (parts : List (List 
 pub all-end : AllEnd
 all-end c other traces parts valid made are =
     let t = types_of c other traces parts in
-    all-come_to_ends t (types-lessen c other traces parts valid made are)
-    (start-fits c other traces parts valid made are) (λ x there. refl)
+    all-come_to_ends t (start-fits c other traces parts valid made are)
+    (types-lessen c other traces parts valid made are) (λ x there. refl)

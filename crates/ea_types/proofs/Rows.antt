@@ -11,12 +11,11 @@ use Rattle.ea_machine.specs.State.{State}
 use Rattle.ea_sound.specs.Turns.{is_ended}
 use Rattle.ea_sound.proofs.Totals.{put-here, put-other}
 use Rattle.ea_given.specs.Runs.{log_length}
-use Rattle.ea_types.specs.Turning.{Standing, Types, all_work, ending, first_going, lines_after}
+use Rattle.ea_types.specs.Turning.{Standing, Types, first_going, lines_after}
 use Rattle.ea_types.specs.Turning.{own_by, own_if, own_on, turn_of, turned, turned_by, turned_in}
 use Rattle.ea_types.specs.Turning.{turned_on}
 use Rattle.ea_types.proofs.OwnRuns.{is-other, is-same}
-use Rattle.ea_types.proofs.Turns.{Fits, Lessens, first-same, step-fits, step-less}
-use Rattle.ea_types.proofs.Turns.{turn-in}
+use Rattle.ea_types.proofs.Turns.{first-same}
 
 -- turns in a row
 module _ (t : Types) (me x : ℕ) where
@@ -144,39 +143,16 @@ module _ (t : Types) (me x : ℕ) where
       ∙ row-other_lines i (suc n) (turned_in t p me x) other (next-turn n p is row)
       (next-row n p is row) ∙ next-lines n p is row i
 
-  -- they are the next ones of the scheduler until it has ended
-  module _ (lessens : Lessens t) where
-    abbrev Follow : ℕ → ℕ → Standing → Standing → Type 0
-    Follow count most p q = (all_work t q me < all_work t p me) × ((rest : ℕ)
-        × (all_work t q me ≤ rest) × (ending t most p me (turn_of t p me)
-        ≡ replicate count me ++ ending t rest q me (turn_of t q me)))
-
-    one-follows : (most : ℕ) (p : Standing) → Fits t p → turn_of t p me ≡ Some x
-        → all_work t p me ≤ most → Follow 1 most p (turned_in t p me x)
-    one-follows zero p fits is upto =
-        let (there, going) = turn-in t p fits me x is in
-        absurd (omega (arith, upto, step-less t p fits me lessens x there going))
-    one-follows (suc most) p fits is upto =
-        let (there, going) = turn-in t p fits me x is in
-        let less = step-less t p fits me lessens x there going in
-        (less, (most, omega (arith, upto, less), ap (ending t (suc most) p me) is))
-
-    pub row-ending : (count most : ℕ) (p : Standing) → Fits t p → turn_of t p me ≡ Some x
-        → IsRow count p → 1 ≤ count → all_work t p me ≤ most
-        → Follow count most p (turned_on t p (replicate count me))
-    row-ending zero most p fits is row some upto = absurd (omega (arith, some))
-    row-ending (suc zero) most p fits is row some upto =
-        subst (Follow 1 most p) (sym (turned-is p is)) (one-follows most p fits is upto)
-    row-ending (suc (suc n)) most p fits is row some upto =
-        let q = turned_in t p me x in
-        let one = one-follows most p fits is upto in
-        let more = row-ending (suc n) one.1.0 q (step-fits t p fits me x) (next-turn n p is row)
-        (next-row n p is row) (omega arith) one.1.1 in
-        subst (λ s. Follow (suc (suc n)) most p (turned_on t s (replicate (suc n) me)))
-        (sym (turned-is p is)) (
-          omega (arith, one.0, more.0),
-          (more.1.0, more.1.1, one.1.2 ∙ ap (λ js. me ∷ js) more.1.2),
-        )
+  -- before each of them the next one is in that type, too
+  pub row-going : (count : ℕ) (p : Standing) → turn_of t p me ≡ Some x → IsRow count p
+      → (k : ℕ) → k < count → turn_of t (turned_on t p (replicate k me)) me ≡ Some x
+  row-going count p is row zero below = is
+  row-going zero p is row (suc k) below = absurd (omega (arith, below))
+  row-going (suc zero) p is row (suc k) below = absurd (omega (arith, below))
+  row-going (suc (suc n)) p is row (suc k) below =
+      ap (λ s. turn_of t (turned_on t s (replicate k me)) me) (turned-is p is)
+      ∙ row-going (suc n) (turned_in t p me x) (next-turn n p is row) (next-row n p is row) k
+      (omega (arith, below))
 
 -- turns after turns are those of a type
 pub own-append : (t : Types) (x : ℕ) (p : Standing) (xs ys : List ℕ)

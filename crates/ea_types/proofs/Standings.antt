@@ -21,15 +21,16 @@ use Rattle.ea_given.specs.Runs as one
 use Rattle.ea_given.specs.Runs.{done_after, ended_after, log_length}
 use Rattle.ea_types.specs.declared.given.TypedRun.{TypedRun}
 use Rattle.ea_types.specs.Courses.{types_of}
-use Rattle.ea_types.specs.Given.{HasGrown, HasScheduler, IsEnding, StandsAfter}
+use Rattle.ea_types.specs.Given.{HasGrown, HasScheduler, IsGoing, StandsAfter}
 use Rattle.ea_types.specs.Given.{left_after, parts_in}
 use Rattle.ea_types.specs.Turning.{Standing, Types, after_first, at_start, lines_after}
-use Rattle.ea_types.specs.Turning.{own_turns, stands_after, turn_of, turned_on}
-use Rattle.ea_types.proofs.Ending.{start-fits, types-lessen}
+use Rattle.ea_types.specs.Turning.{own_turns, play_of, stands_after, turn_of}
+use Rattle.ea_play.proofs.Ending.{after-append}
+use Rattle.ea_types.proofs.Ending.{fits-after, start-fits, types-lessen}
 use Rattle.ea_types.proofs.OwnRuns.{are-own_runs}
-use Rattle.ea_types.proofs.Rows.{IsRow, grown_by, later, own-append, row-ending, row-lines}
+use Rattle.ea_types.proofs.Rows.{IsRow, grown_by, later, own-append, row-going, row-lines}
 use Rattle.ea_types.proofs.Rows.{row-other_lines, row-others, row-own}
-use Rattle.ea_types.proofs.Turns.{Fits, Lessens, turn-in, turned-append, turns-fit}
+use Rattle.ea_types.proofs.Turns.{Fits, Lessens, turn-in}
 
 -- where nobody stops, all turns are taken
 cut-none : (left : ℕ → Option ℕ) → ((i : ℕ) → left i ≡ None) → (xs : List ℕ) → cut left xs ≡ xs
@@ -37,11 +38,6 @@ cut-none left none [] = refl
 cut-none left none (x ∷ xs) =
     ap (λ o. up_to o (x ∷ []) ++ cut (put_left o left x) xs) (none x)
     ∙ ap (λ js. x ∷ js) (cut-none left none xs)
-
--- turns after turns
-pub after-append : (t : Types) (xs ys : List ℕ)
-    → stands_after t (xs ++ ys) ≡ turned_on t (stands_after t xs) ys
-after-append t xs ys = turned-append t (at_start t) xs ys
 
 module _ (c : Config) (other : Trace) (traces : List Trace) (parts : List (List ℕ))
     (turns : List ℕ) (r : TypedRun) (at : StandsAfter c other traces parts turns r) where
@@ -57,8 +53,11 @@ module _ (c : Config) (other : Trace) (traces : List Trace) (parts : List (List 
   made : All (IsValidTrace c.schedulers) traces
   made i d below = (at.made i d below).valid
 
+  pub fits-start : Fits t (at_start t)
+  fits-start = start-fits c other traces parts at.config made at.lines
+
   pub fits : Fits t p
-  fits = turns-fit t (at_start t) turns (start-fits c other traces parts at.config made at.lines)
+  fits = fits-after t fits-start turns
 
   pub lessens : Lessens t
   lessens = types-lessen c other traces parts at.config made at.lines
@@ -160,8 +159,8 @@ module _ (c : Config) (other : Trace) (traces : List Trace) (parts : List (List 
       row : IsRow t me x count p
       row = is-row x next-there d me count looks
 
-      pub next-ending : IsEnding me count t p
-      next-ending most upto = row-ending t me x lessens count most p fits next row some upto
+      pub next-going : IsGoing me count t p
+      next-going k below = ap is_none (row-going t me x count p next row k below)
 
       abbrev all : List ℕ
       all = turns ++ replicate count me
@@ -177,12 +176,12 @@ module _ (c : Config) (other : Trace) (traces : List Trace) (parts : List (List 
 
       lines-here : (stands_after t all).lines me
           ≡ lines_after (grown_by t me x p count) x (p.lines me)
-      lines-here = ap (λ (s : Standing). s.lines me) (after-append t turns (replicate count me))
+      lines-here = ap (λ (s : Standing). s.lines me) (after-append (play_of t) turns (replicate count me))
           ∙ row-lines t me x count p next row some
 
       lines-others : (i : ℕ) → i ≢ me → (stands_after t all).lines i ≡ p.lines i
       lines-others i apart =
-          ap (λ (s : Standing). s.lines i) (after-append t turns (replicate count me))
+          ap (λ (s : Standing). s.lines i) (after-append (play_of t) turns (replicate count me))
           ∙ row-other_lines t me x i count p apart next row
 
       -- the run stands after them

@@ -20,7 +20,7 @@ use Rattle.ea_sound.proofs.TurnLists.{ended-is, not-ended, step-ended, step-othe
 use Rattle.ea_given.specs.Runs.{log_length}
 use Rattle.ea_types.specs.Turning.{Standing, Types, after_by, after_first, all_work, first_going}
 use Rattle.ea_types.specs.Turning.{going_or, lines_after, turn_of, turned, turned_by}
-use Rattle.ea_types.specs.Turning.{turned_in, turned_on}
+use Rattle.ea_types.specs.Turning.{turned_in}
 
 pub is-false : (b : Bool) → not b ≡ true → b ≡ false
 is-false true is = absurd cc
@@ -67,6 +67,12 @@ module _ (states : ℕ → State) (me : ℕ) where
   ] where
     some : (y : ℕ) → Some y ≡ None → ⊥
     some y q = absurd cc
+
+  pub first-all : (xs : List ℕ) → All (λ x. ended_in x ≡ true) xs
+      → first_going states me xs ≡ None
+  first-all [] all = refl
+  first-all (x ∷ xs) all = passes x xs (All-head (λ x. ended_in x ≡ true) x xs all)
+      ∙ first-all xs (All-tail (λ x. ended_in x ≡ true) x xs all)
 
   -- those in which it has ended are passed over
   pub first-after : (xs ys : List ℕ) → All (λ x. ended_in x ≡ true) xs
@@ -260,22 +266,12 @@ module _ (t : Types) where
   pub turn-fits : (p : Standing) (me : ℕ) → Fits p → Fits (turned t p me)
   turn-fits p me fits = by-fits p me (turn_of t p me) fits
 
-  pub turns-fit : (p : Standing) (turns : List ℕ) → Fits p → Fits (turned_on t p turns)
-  turns-fit p [] fits = fits
-  turns-fit p (me ∷ turns) fits = turns-fit (turned t p me) turns (turn-fits p me fits)
-
-  -- turns after turns
-  pub turned-append : (p : Standing) (xs ys : List ℕ)
-      → turned_on t p (xs ++ ys) ≡ turned_on t (turned_on t p xs) ys
-  turned-append p [] ys = refl
-  turned-append p (x ∷ xs) ys = turned-append (turned t p x) xs ys
-
   -- who has ended in a type stays so
   module _ (x me : ℕ) where
     abbrev HasEnded : Standing → Type 0
     HasEnded p = ((p.states x).actors me).stage ≡ Ended
 
-    ended-by : (p : Standing) (j : ℕ) (o : Option ℕ) → HasEnded p → HasEnded (turned_by t p j o)
+    pub ended-by : (p : Standing) (j : ℕ) (o : Option ℕ) → HasEnded p → HasEnded (turned_by t p j o)
     ended-by p j None ended = ended
     ended-by p j (Some y) ended =
         let v = step (t.setups y) (p.states y) j in
@@ -291,8 +287,3 @@ module _ (t : Types) where
               ]
           | inr n ↦ ap (λ (w : State). (w.actors me).stage) (put-other p.states y v x n) ∙ ended
         ]
-
-    pub ended-on : (p : Standing) (turns : List ℕ) → HasEnded p → HasEnded (turned_on t p turns)
-    ended-on p [] ended = ended
-    ended-on p (j ∷ turns) ended = ended-on (turned t p j) turns
-        (ended-by p j (turn_of t p j) ended)

@@ -1,6 +1,6 @@
 -- The run of several types by turns, as it stands after some.
-use Rattle.std.specs.Prelude.{◌≡◌, ℕ, ◌+◌, ◌-◌, ◌<◌, ◌≤◌, Bool, true, List, [], ◌++◌, All}
-use Rattle.std.specs.Prelude.{None, Some, drop, length, map, nat_lt, replicate, slice_index_or}
+use Rattle.std.specs.Prelude.{◌≡◌, ℕ, ◌+◌, ◌-◌, ◌<◌, ◌≤◌, Bool, true, false, List, [], ◌++◌, All}
+use Rattle.std.specs.Prelude.{None, Some, drop, is_none, length, map, nat_lt, replicate, slice_index_or}
 use Rattle.std.specs.Prelude.{sum_by}
 use Rattle.ea_model.specs.declared.outcome.Outcome.{Outcome}
 use Rattle.ea_model.specs.declared.settings.Config.{Config}
@@ -17,8 +17,9 @@ use Rattle.ea_given.specs.Runs.{done_after, left_in}
 use Rattle.ea_types.specs.declared.given.Next.{Next}
 use Rattle.ea_types.specs.declared.given.TypedRun.{TypedRun}
 use Rattle.ea_types.specs.Courses.{AreParts, types_of}
-use Rattle.ea_types.specs.Turning.{Standing, Types, after_first, all_work, complete, ending}
-use Rattle.ea_types.specs.Turning.{finishing, own_turns, stands_after, turn_of, turned_on}
+use Rattle.ea_play.specs.Plays.{Play}
+use Rattle.ea_types.specs.Turning.{Standing, Types, after_first, own_turns, play_of, stands_after}
+use Rattle.ea_types.specs.Turning.{turn_of, turned_on}
 
 -- a trace of one of several types, for n schedulers: a valid one, with a text for each, without a
 -- stop
@@ -88,14 +89,6 @@ GoesOn after run gone = (c : Config) (other : Trace) (traces : List Trace) (part
 abbrev pub HasTaken : List ℕ → TypedRun → TypedRun → Type 0
 HasTaken more = GoesOn (λ t turns. turns ++ more)
 
--- it has taken those until the scheduler has ended in each type
-abbrev pub HasFinished : ℕ → TypedRun → TypedRun → Type 0
-HasFinished me = GoesOn (λ t turns. turns ++ finishing t (stands_after t turns) me)
-
--- it has taken those that complete them
-abbrev pub HasCompleted : TypedRun → TypedRun → Type 0
-HasCompleted = GoesOn complete
-
 -- the lines that are left to the scheduler once one in type x is over
 abbrev pub left_after : TypedRun → ℕ → ℕ → List ℕ
 left_after run over me = drop over (slice_index_or (parts_in run.parts.now) (me - 1) [])
@@ -118,13 +111,10 @@ HasNone me = Tells (λ t p. turn_of t p me ≡ None)
 abbrev pub all_left : ℕ → TypedRun → ℕ
 all_left me run = sum_by (left_in me) run.runs.items
 
--- so many turns of the scheduler are the next ones until it has ended in each type
-abbrev pub IsEnding : ℕ → ℕ → Types → Standing → Type 0
-IsEnding me count t p = (most : ℕ) → all_work t p me ≤ most
-    → (let q = turned_on t p (replicate count me) in
-    (all_work t q me < all_work t p me) × ((rest : ℕ) × (all_work t q me ≤ rest)
-    × (ending t most p me (turn_of t p me)
-    ≡ replicate count me ++ ending t rest q me (turn_of t q me))))
+-- before each of so many turns of the scheduler it hasn't ended in each type
+abbrev pub IsGoing : ℕ → ℕ → Types → Standing → Type 0
+IsGoing me count t p = (k : ℕ) → k < count
+    → is_none (turn_of t (turned_on t p (replicate k me)) me) ≡ false
 
 -- they are what is printed of each type after its own turns among these
 abbrev pub ArePrinted : Types → List ℕ → List Outcome → Type 0
@@ -137,3 +127,14 @@ abbrev pub IsPrinted : List Outcome → TypedRun → Type 0
 IsPrinted outcomes run = (c : Config) (other : Trace) (traces : List Trace)
     (parts : List (List ℕ)) (turns : List ℕ) → StandsAfter c other traces parts turns run
     → ArePrinted (types_of c other traces parts) turns outcomes
+
+-- whose run it is: the configuration, a trace for a type that isn't there, the traces, and the types
+-- of the lines
+abbrev pub Whose : Type 0
+Whose = Config × Trace × List Trace × List (List ℕ)
+
+abbrev pub play_for : Whose → Play Standing
+play_for x = play_of (types_of x.0 x.1 x.2 x.3)
+
+abbrev pub StandsAs : Whose → List ℕ → TypedRun → Type 0
+StandsAs x turns run = StandsAfter x.0 x.1 x.2 x.3 turns run

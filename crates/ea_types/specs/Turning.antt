@@ -1,8 +1,8 @@
 -- Turns of schedulers that have several allocator types: in which type each is a step (`turn_of`),
 -- the turns of each type (`own_turns`), and its run.
 -- This simulator's own: the sources leave it undecided.
-use Rattle.std.specs.Prelude.{◌≡◌, ℕ, zero, suc, ◌<◌, nat_lt, ◌==◌, Bool, true, false}
-use Rattle.std.specs.Prelude.{List, [], ◌∷◌, ◌++◌, Option, None, Some, sum_by}
+use Rattle.std.specs.Prelude.{◌≡◌, ℕ, ◌<◌, nat_lt, ◌==◌, Bool, true, false}
+use Rattle.std.specs.Prelude.{List, [], ◌∷◌, ◌++◌, Option, None, Some, is_none, sum_by}
 use Rattle.std.specs.List.{range_with_len}
 use Rattle.ea_machine.specs.declared.stages.Stage.TheVariants.{Ended}
 use Rattle.ea_machine.specs.Completion.{work}
@@ -12,6 +12,8 @@ use Rattle.ea_machine.specs.Shared.{put}
 use Rattle.ea_machine.specs.State.{State}
 use Rattle.ea_sound.specs.Turns.{is_ended}
 use Rattle.ea_given.specs.Runs.{log_length}
+use Rattle.ea_play.specs.Plays.{Play, after, after_on}
+use Rattle.ea_play.specs.Plays as plays
 
 -- what stays the same: how many types and schedulers there are, the setup of each type by its place
 -- among them, from 0 on, and of each scheduler the type of each of its lines, by that place
@@ -78,18 +80,36 @@ module _ (t : Types) where
   abbrev pub turned : Standing → ℕ → Standing
   turned p me = turned_by p me (turn_of p me)
 
-  -- turns of these schedulers, one after another
-  abbrev pub turned_on : Standing → List ℕ → Standing
-  turned_on p [] = p
-  turned_on p (me ∷ turns) = turned_on (turned p me) turns
-
   -- before the first turn
   abbrev pub at_start : Standing
   at_start = record { states = λ x. start (t.setups x); lines = t.lines }
 
+  -- the turns that are left to a scheduler, at most, if no other one takes any
+  abbrev pub all_work : Standing → ℕ → ℕ
+  all_work p me = sum_by (λ x. work (t.setups x) (p.states x) me) (range_with_len 0 t.types)
+
+  -- a scheduler is over once it has ended in each type
+  abbrev pub play_of : Play Standing
+  play_of = record {
+    schedulers = t.schedulers;
+    start = at_start;
+    turn = turned;
+    is_over = λ p me. is_none (turn_of p me);
+    left = all_work;
+  }
+
+  -- turns of these schedulers, one after another
+  abbrev pub turned_on : Standing → List ℕ → Standing
+  turned_on p turns = after_on play_of p turns
+
   -- where a run stands after these turns
   abbrev pub stands_after : List ℕ → Standing
-  stands_after turns = turned_on at_start turns
+  stands_after turns = after play_of turns
+
+  -- the turns of a schedule, then those of scheduler 1 until it has ended in each type, then of
+  -- scheduler 2, up to the last one
+  abbrev pub complete : List ℕ → List ℕ
+  complete turns = plays.complete play_of turns
 
   -- those of these turns that are steps in type x
   abbrev pub own_by : Bool → ℕ → List ℕ
@@ -106,33 +126,6 @@ module _ (t : Types) where
 
   abbrev pub own_turns : ℕ → List ℕ → List ℕ
   own_turns x turns = own_on x at_start turns
-
-  -- the turns that are left to a scheduler, at most, if no other one takes any
-  abbrev pub all_work : Standing → ℕ → ℕ
-  all_work p me = sum_by (λ x. work (t.setups x) (p.states x) me) (range_with_len 0 t.types)
-
-  -- its turns until it has ended in each type, but not more than that many; the first one is in
-  -- the type that is told
-  abbrev pub ending : ℕ → Standing → ℕ → Option ℕ → List ℕ
-  ending most p me None = []
-  ending zero p me (Some x) = []
-  ending (suc most) p me (Some x) =
-      let q = turned_in p me x in me ∷ ending most q me (turn_of q me)
-
-  abbrev pub finishing : Standing → ℕ → List ℕ
-  finishing p me = ending (all_work p me) p me (turn_of p me)
-
-  -- the turns until each of `count` schedulers from `me` on has ended in each type, one scheduler
-  -- after another
-  abbrev pub completing : ℕ → ℕ → Standing → List ℕ
-  completing zero me p = []
-  completing (suc count) me p = finishing p me
-      ++ completing count (suc me) (turned_on p (finishing p me))
-
-  -- the turns of a schedule, then those of scheduler 1 until it has ended in each type, then of
-  -- scheduler 2, up to the last one
-  abbrev pub complete : List ℕ → List ℕ
-  complete turns = turns ++ completing t.schedulers 1 (stands_after turns)
 
 -- the run of each type is that of its own turns
 abbrev pub AreOwnRuns : Types → Type 0

@@ -6,14 +6,14 @@ ghost use Rattle.ea_model.specs.Settings.{IsValidConfig};
 ghost use Rattle.ea_model.specs.Trace.{IsScheduler};
 ghost use Rattle.ea_given.specs.Runs as one;
 ghost use Rattle.ea_types.specs.Courses.{AreParts, types_of};
-ghost use Rattle.ea_types.specs.Given.{AreAtStart, ArePrinted, HasCompleted, HasFinished, HasGrown};
-ghost use Rattle.ea_types.specs.Given.{HasNone, HasScheduler, HasTaken, IsNext, IsRun, IsTypeTrace};
-ghost use Rattle.ea_types.specs.Given.{IsEnding, IsPrinted, LinesAreOver, StandsAfter, Tells};
-ghost use Rattle.ea_types.specs.Given.{parts_in};
+ghost use Rattle.ea_types.specs.Given.{AreAtStart, ArePrinted, HasGrown, HasNone, HasScheduler};
+ghost use Rattle.ea_types.specs.Given.{HasTaken, IsGoing, IsNext, IsPrinted, IsRun, IsTypeTrace};
+ghost use Rattle.ea_types.specs.Given.{LinesAreOver, StandsAfter, Tells, parts_in};
 ghost use Rattle.ea_types.specs.Turning.{complete};
 
 use ea_given::GivenRun;
 use ea_model::{Config, List, OutOfMemory, Outcome, Trace, Turns};
+use ea_play::{Plays, complete, take_schedule};
 use std::alloc::Global;
 
 /// Where a scheduler's next turn is: the place of its type, and how many of its lines are over once
@@ -162,14 +162,14 @@ impl<'t> TypedRun<'t> {
 
     /// Takes turns of a scheduler, at least one and not more than `most`, in the type of its next
     /// one. Answers how many it took.
-    fn go(&mut self, alloc: Global, me: u32, next: Next, most: u32) -> Result<u32, OutOfMemory>
+    fn go_on(&mut self, alloc: Global, me: u32, next: Next, most: u32) -> Result<u32, OutOfMemory>
         requires stands { IsRun self.old }
         requires scheduler { HasScheduler me self.old }
         requires next { IsNext me next self.old }
         requires some { 1 ≤ most }
         ensures few { IfOk result (λ count. (1 ≤ count) × (count ≤ most)) }
         ensures taken { IfOk result (λ count. HasTaken (replicate count me) self.old self.new) }
-        ensures ending { IfOk result (λ count. Tells (IsEnding me count) self.old) }
+        ensures going { IfOk result (λ count. Tells (IsGoing me count) self.old) }
     {
         let taken = take_some(&mut self.runs[next.kind], alloc, me, most)?;
         if !taken.grown {
@@ -177,59 +177,6 @@ impl<'t> TypedRun<'t> {
         }
         self.over[me as usize - 1] = next.over;
         Ok(taken.count)
-    }
-
-    /// Takes that many turns of a scheduler. Those after it has ended in each type are none.
-    fn take(&mut self, alloc: Global, me: u32, count: u32) -> Result<(), OutOfMemory>
-        requires stands { IsRun self.old }
-        requires scheduler { HasScheduler me self.old }
-        ensures { OnOk result (HasTaken (replicate count me) self.old self.new) }
-    {
-        let mut left = count;
-        while left > 0 {
-            let Some(next) = self.next(me) else {
-                return Ok(());
-            };
-            left -= self.go(alloc, me, next, left)?;
-        }
-        Ok(())
-    }
-
-    /// Takes the turns of a schedule.
-    fn take_all(&mut self, alloc: Global, schedule: &[Turns]) -> Result<(), OutOfMemory>
-        requires stands { IsRun self.old }
-        requires theirs { All (λ t. HasScheduler t.scheduler self.old) schedule.now }
-        ensures { OnOk result (HasTaken (flat_map (λ t. replicate t.count t.scheduler) schedule.now)
-            self.old self.new) }
-    {
-        for turns in schedule {
-            self.take(alloc, turns.scheduler, turns.count)?;
-        }
-        Ok(())
-    }
-
-    /// Takes turns of a scheduler until it has ended in each type.
-    fn finish(&mut self, alloc: Global, me: u32) -> Result<(), OutOfMemory>
-        requires stands { IsRun self.old }
-        requires scheduler { HasScheduler me self.old }
-        ensures { OnOk result (HasFinished me self.old self.new) }
-    {
-        while let Some(next) = self.next(me) {
-            self.go(alloc, me, next, u32::MAX)?;
-        }
-        Ok(())
-    }
-
-    /// Takes the turns that complete those that were taken: scheduler 1 goes on until it has ended
-    /// in each type, then scheduler 2, up to the last one.
-    fn complete(&mut self, alloc: Global) -> Result<(), OutOfMemory>
-        requires { IsRun self.old }
-        ensures { OnOk result (HasCompleted self.old self.new) }
-    {
-        for before in 0..self.schedulers {
-            self.finish(alloc, before + 1)?;
-        }
-        Ok(())
     }
 
     /// What is printed of each type, in order, as the run stands.
@@ -242,6 +189,29 @@ impl<'t> TypedRun<'t> {
             outcomes.push(run.outcome(alloc)?)?;
         }
         Ok(outcomes)
+    }
+}
+
+impl<'t> Plays for TypedRun<'t> {
+    ghost use Rattle.ea_types.specs.Given.{StandsAs, Whose, all_left, play_for};
+    ghost use Rattle.ea_types.specs.Turning.{Standing};
+
+    ghost Whose = { Whose };
+
+    ghost State = { Standing };
+
+    ghost play = { play_for };
+
+    ghost stands = { StandsAs };
+
+    ghost left = { all_left };
+
+    /// Turns of a scheduler in the type of its next one. None where it has ended in each type.
+    fn go(&mut self, alloc: Global, me: u32, most: u32) -> Result<u32, OutOfMemory> {
+        let Some(next) = self.next(me) else {
+            return Ok(0);
+        };
+        self.go_on(alloc, me, next, most)
     }
 }
 
@@ -268,7 +238,7 @@ pub fn run_scheduled(
         (complete t (flat_map (λ t. replicate t.count t.scheduler) schedule.now)) outcomes.items)) }
 {
     let mut run = TypedRun::new(alloc, config, traces, parts)?;
-    run.take_all(alloc, schedule)?;
-    run.complete(alloc)?;
+    take_schedule(&mut run, alloc, schedule)?;
+    complete(&mut run, alloc, config.schedulers)?;
     run.outcomes(alloc)
 }

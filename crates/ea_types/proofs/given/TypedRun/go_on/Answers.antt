@@ -2,10 +2,10 @@ use Rattle.std.proofs.Common.{refl, sym, subst, arith}
 use Rattle.std.specs.Prelude.{replicate}
 use Rattle.ea_given.specs.Runs as one
 use Rattle.ea_types.specs.Given.{HasGrown}
-use Rattle.ea_types.proofs.Standings.{next-ending, next-there, one-has, one-is_run, over-after}
+use Rattle.ea_types.proofs.Standings.{next-going, next-there, one-has, one-is_run, over-after}
 use Rattle.ea_types.proofs.Standings.{stays-after}
 use Rattle.ea_types.proofs.Turns.{is-false, is-true}
-use Rattle.ea_types.proofs.given.TypedRun.go.Goals as goal
+use Rattle.ea_types.proofs.given.TypedRun.go_on.Goals as goal
 
 pub index_mut-requires : goal.index_mut-requires
 index_mut-requires c =
@@ -52,12 +52,12 @@ returns-then-not-taken-clause-taken c = λ d other traces parts turns at.
     c.in_ok-taken.taken.grown (subst (HasGrown me k c.in_ok-taken.taken.grown) is e.grown) _ refl
     refl refl (is-false c.in_ok-taken.taken.grown c.if-not-taken.true) refl
 
-pub returns-then-not-taken-clause-ending : goal.returns-then-not-taken-clause-ending
-returns-then-not-taken-clause-ending c = λ d other traces parts turns at.
+pub returns-then-not-taken-clause-going : goal.returns-then-not-taken-clause-going
+returns-then-not-taken-clause-going c = λ d other traces parts turns at.
     let me = c.args.me in
     let k = c.in_ok-taken.taken.count in
     let e = c.in_ok-taken.ensures in
-    next-ending d other traces parts turns c.args.self.now at me c.requires.scheduler
+    next-going d other traces parts turns c.args.self.now at me c.requires.scheduler
     c.args.next.kind (c.requires.next d other traces parts turns at).0 c.index_mut.result.now k
     e.few.0 (λ many. subst (one.StaysInOperation me (replicate k me)) c.index_mut.ensures.value
     (e.looks many))
@@ -77,12 +77,12 @@ returns-clause-taken c = λ d other traces parts turns at.
     c.in_ok-taken.taken.grown (subst (HasGrown me k c.in_ok-taken.taken.grown) is e.grown) _ refl
     refl refl c.args.next.over next.1 (is-true c.in_ok-taken.taken.grown c.if-not-taken.false) refl
 
-pub returns-clause-ending : goal.returns-clause-ending
-returns-clause-ending c = λ d other traces parts turns at.
+pub returns-clause-going : goal.returns-clause-going
+returns-clause-going c = λ d other traces parts turns at.
     let me = c.args.me in
     let k = c.in_ok-taken.taken.count in
     let e = c.in_ok-taken.ensures in
-    next-ending d other traces parts turns c.args.self.now at me c.requires.scheduler
+    next-going d other traces parts turns c.args.self.now at me c.requires.scheduler
     c.args.next.kind (c.requires.next d other traces parts turns at).0 c.index_mut.result.now k
     e.few.0 (λ many. subst (one.StaysInOperation me (replicate k me)) c.index_mut.ensures.value
     (e.looks many))
