@@ -27,7 +27,7 @@ use Rattle.ea_contents.specs.Model.{Moment, Script, complete, opening, over_by, 
 use Rattle.ea_contents.specs.Model.{turn, waiting}
 use Rattle.ea_contents.specs.Placing.{first_of}
 use Rattle.ea_contents.specs.Playing.{HasTurned, IsOutcome, IsPlay, PlayHas, PlayTells, PlaysAs}
-use Rattle.ea_contents.specs.Playing.{StandsAfter, Whose, outcome_played, play_for, shown_played}
+use Rattle.ea_contents.specs.Playing.{Key, StandsAfter, outcome_played, play_for, shown_played}
 use Rattle.ea_contents.specs.Playing.{turns_to}
 use Rattle.ea_contents.specs.Script.{IsRising, list_for, script_of}
 use Rattle.ea_contents.specs.Sessions.{IsSession, SessionTells, StandsWith}
@@ -57,7 +57,7 @@ ended-told p i ends told = λ c t ss m at. told c t at.taken m.lists at.session
     ∙ ap (λ (w : State). is_ended (w.actors i).stage) (sym at.state)
 
 -- a play comes to its end, and turns of a scheduler that is over change nothing
-module _ (x : Whose) (turns : List ℕ) (p : Play) (at : StandsAfter x turns p) where
+module _ (x : Key) (turns : List ℕ) (p : Play) (at : StandsAfter x turns p) where
   abbrev e : Setup
   e = setup_of x.0 x.1
 
@@ -125,7 +125,7 @@ module _ (x : Whose) (turns : List ℕ) (p : Play) (at : StandsAfter x turns p) 
         ∙ sym (told x.0 x.1 x.2 m at)
 
 -- a play has schedulers of one run
-pub same-many : (x : Whose) (turns : List ℕ) (p : Play) → StandsAfter x turns p
+pub same-many : (x : Key) (turns : List ℕ) (p : Play) → StandsAfter x turns p
     → HasSchedulers StandsAfter play_for x.0.schedulers p
 same-many x turns p at y more then = sym at.each ∙ then.each
 

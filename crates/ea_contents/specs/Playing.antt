@@ -89,12 +89,12 @@ turns_to i p = left_in i p.session.run
     - length (list_for (map (λ s. s.items) p.shown.items) i))
 
 -- whose play it is: the configuration, the trace and the sections
-abbrev pub Whose : Type 0
-Whose = Config × Trace × List (List Placed)
+abbrev pub Key : Type 0
+Key = Config × Trace × List (List Placed)
 
-abbrev pub play_for : Whose → plays.Play Moment
+abbrev pub play_for : Key → plays.Play Moment
 play_for x = play_of (setup_of x.0 x.1) (script_of x.2)
 
 -- it is that play, after these turns of all kinds
-abbrev pub StandsAfter : Whose → List ℕ → Play → Type 0
+abbrev pub StandsAfter : Key → List ℕ → Play → Type 0
 StandsAfter x turns = PlaysAs x.0 x.1 x.2 (play (setup_of x.0 x.1) (script_of x.2) turns)

@@ -176,9 +176,9 @@ impl<'t> Play<'t> {
 
 impl<'t> Plays for Play<'t> {
     ghost use Rattle.ea_contents.specs.Model.{Moment};
-    ghost use Rattle.ea_contents.specs.Playing.{StandsAfter, Whose, play_for, turns_to};
+    ghost use Rattle.ea_contents.specs.Playing.{Key, StandsAfter, play_for, turns_to};
 
-    ghost Whose = { Whose };
+    ghost Whose = { Key };
 
     ghost State = { Moment };
 

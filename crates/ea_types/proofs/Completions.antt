@@ -19,7 +19,7 @@ use Rattle.ea_play.proofs.Ending.{after-append, gone-none, row-less}
 use Rattle.ea_types.specs.declared.given.TypedRun.{TypedRun}
 use Rattle.ea_types.specs.Courses.{types_of}
 use Rattle.ea_types.specs.Given.{HasNone, HasScheduler, HasTaken, IsGoing, IsRun, StandsAfter}
-use Rattle.ea_types.specs.Given.{StandsAs, Tells, Whose, all_left, play_for}
+use Rattle.ea_types.specs.Given.{StandsAs, Tells, Key, all_left, play_for}
 use Rattle.ea_types.specs.Turning.{Standing, Types, all_work, own_on, own_turns, at_start, own_if}
 use Rattle.ea_types.specs.Turning.{play_of, stands_after, turn_of, turned_by, turned_on}
 use Rattle.ea_types.proofs.Ending.{play-ends}
@@ -110,12 +110,12 @@ is-run r me has =
     ((x.0, x.1, x.2, x.3, turns, at), (is.0, omega (arith, is.1, at.schedulers)))
 
 -- all runs of its types have as many schedulers
-pub same-many : (x : Whose) (turns : List ℕ) (r : TypedRun) → StandsAs x turns r
+pub same-many : (x : Key) (turns : List ℕ) (r : TypedRun) → StandsAs x turns r
     → HasSchedulers StandsAs play_for x.0.schedulers r
 same-many x turns r at y more then = sym at.schedulers ∙ then.schedulers
 
 -- it goes on
-module _ (x : Whose) (turns : List ℕ) (r : TypedRun) (at : StandsAs x turns r) where
+module _ (x : Key) (turns : List ℕ) (r : TypedRun) (at : StandsAs x turns r) where
   ends : Ends (play_for x)
   ends = play-ends (types_of x.0 x.1 x.2 x.3) (fits-start x.0 x.1 x.2 x.3 turns r at)
       (lessens x.0 x.1 x.2 x.3 turns r at)

@@ -11,10 +11,11 @@ use Rattle.ea_model.specs.Trace.{IsValidTrace, stop_in}
 use Rattle.ea_machine.specs.Machine.{run, run_on, start}
 use Rattle.ea_machine.specs.Setup.{Setup}
 use Rattle.ea_machine.specs.State.{State}
-use Rattle.ea_machine.specs.Stops.{cut, put_left, run_with_stops, up_to}
+use Rattle.ea_machine.specs.Stops.{cut, run_with_stops}
 use Rattle.ea_sound.specs.Turns.{is_ended}
 use Rattle.ea_sound.proofs.Growing.{same-going, same-log}
 use Rattle.ea_sound.proofs.Protocols.{always-protocol}
+use Rattle.ea_sound.proofs.Stopping.{cut-none}
 use Rattle.ea_sound.proofs.TurnLists.{run-append}
 use Rattle.ea_given.specs.declared.run.GivenRun.{GivenRun}
 use Rattle.ea_given.specs.Runs as one
@@ -31,13 +32,6 @@ use Rattle.ea_types.proofs.OwnRuns.{are-own_runs}
 use Rattle.ea_types.proofs.Rows.{IsRow, grown_by, later, own-append, row-going, row-lines}
 use Rattle.ea_types.proofs.Rows.{row-other_lines, row-others, row-own}
 use Rattle.ea_types.proofs.Turns.{Fits, Lessens, turn-in}
-
--- where nobody stops, all turns are taken
-cut-none : (left : ℕ → Option ℕ) → ((i : ℕ) → left i ≡ None) → (xs : List ℕ) → cut left xs ≡ xs
-cut-none left none [] = refl
-cut-none left none (x ∷ xs) =
-    ap (λ o. up_to o (x ∷ []) ++ cut (put_left o left x) xs) (none x)
-    ∙ ap (λ js. x ∷ js) (cut-none left none xs)
 
 module _ (c : Config) (other : Trace) (traces : List Trace) (parts : List (List ℕ))
     (turns : List ℕ) (r : TypedRun) (at : StandsAfter c other traces parts turns r) where

@@ -130,11 +130,11 @@ IsPrinted outcomes run = (c : Config) (other : Trace) (traces : List Trace)
 
 -- whose run it is: the configuration, a trace for a type that isn't there, the traces, and the types
 -- of the lines
-abbrev pub Whose : Type 0
-Whose = Config × Trace × List Trace × List (List ℕ)
+abbrev pub Key : Type 0
+Key = Config × Trace × List Trace × List (List ℕ)
 
-abbrev pub play_for : Whose → Play Standing
+abbrev pub play_for : Key → Play Standing
 play_for x = play_of (types_of x.0 x.1 x.2 x.3)
 
-abbrev pub StandsAs : Whose → List ℕ → TypedRun → Type 0
+abbrev pub StandsAs : Key → List ℕ → TypedRun → Type 0
 StandsAs x turns run = StandsAfter x.0 x.1 x.2 x.3 turns run

@@ -193,10 +193,10 @@ impl<'t> TypedRun<'t> {
 }
 
 impl<'t> Plays for TypedRun<'t> {
-    ghost use Rattle.ea_types.specs.Given.{StandsAs, Whose, all_left, play_for};
+    ghost use Rattle.ea_types.specs.Given.{Key, StandsAs, all_left, play_for};
     ghost use Rattle.ea_types.specs.Turning.{Standing};
 
-    ghost Whose = { Whose };
+    ghost Whose = { Key };
 
     ghost State = { Standing };
 
