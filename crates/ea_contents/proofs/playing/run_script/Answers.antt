@@ -10,7 +10,7 @@ use Rattle.ea_sound.proofs.Schedules.{turns-theirs}
 use Rattle.ea_play.proofs.Going.{turns_from}
 use Rattle.ea_contents.specs.declared.access.AccessEntry.{AccessEntry}
 use Rattle.ea_contents.specs.Model.{complete, play}
-use Rattle.ea_contents.specs.Playing.{outcome_played, shown_played}
+use Rattle.ea_contents.specs.Playing.{Key, outcome_played, shown_played}
 use Rattle.ea_contents.specs.Script.{script_of, sections_of}
 use Rattle.ea_contents.proofs.Played.{all-outcome, all-shown, same-many}
 use Rattle.ea_contents.proofs.playing.run_script.Goals as goal
@@ -25,12 +25,12 @@ take_schedule-requires c = λ k y below.
 
 pub complete-requires-clause-stands : goal.complete-requires-clause-stands
 complete-requires-clause-stands c =
-    let x = (c.args.config, c.args.input.now.trace, sections_of c.args.input.now) in
+    let x : Key = (c.args.config, c.args.input.now.trace, sections_of c.args.input.now) in
     (x, turns_from c.turns_of.result.now, c.in_ok-take_schedule.ensures x [] c.in_ok-play.ensures)
 
 pub complete-requires-clause-all : goal.complete-requires-clause-all
 complete-requires-clause-all c =
-    let x = (c.args.config, c.args.input.now.trace, sections_of c.args.input.now) in
+    let x : Key = (c.args.config, c.args.input.now.trace, sections_of c.args.input.now) in
     same-many x (turns_from c.turns_of.result.now) c.take_schedule.new.play
     (c.in_ok-take_schedule.ensures x [] c.in_ok-play.ensures)
 

@@ -2,7 +2,7 @@ use Rattle.std.proofs.Common.{[], arith}
 use Rattle.std.proofs.lemmas.Result.{IfOk-weaker}
 use Rattle.ea_play.proofs.Going.{turns_from}
 use Rattle.ea_types.specs.Courses.{types_of}
-use Rattle.ea_types.specs.Given.{parts_in}
+use Rattle.ea_types.specs.Given.{Key, parts_in}
 use Rattle.ea_types.specs.Turning.{complete}
 use Rattle.ea_types.proofs.Completions.{same-many}
 use Rattle.ea_types.proofs.Finds.{no-trace}
@@ -18,7 +18,7 @@ take_schedule-requires c = λ k d below. (
 
 pub complete-requires-clause-stands : goal.complete-requires-clause-stands
 complete-requires-clause-stands c =
-    let x = (c.args.config, no-trace, c.args.traces.now, parts_in c.args.parts.now) in (
+    let x : Key = (c.args.config, no-trace, c.args.traces.now, parts_in c.args.parts.now) in (
       x,
       turns_from c.args.schedule.now,
       c.in_ok-take_schedule.ensures x [] (c.in_ok-run.ensures no-trace),
@@ -26,7 +26,7 @@ complete-requires-clause-stands c =
 
 pub complete-requires-clause-all : goal.complete-requires-clause-all
 complete-requires-clause-all c =
-    let x = (c.args.config, no-trace, c.args.traces.now, parts_in c.args.parts.now) in
+    let x : Key = (c.args.config, no-trace, c.args.traces.now, parts_in c.args.parts.now) in
     same-many x (turns_from c.args.schedule.now) c.take_schedule.new.play
     (c.in_ok-take_schedule.ensures x [] (c.in_ok-run.ensures no-trace))
 

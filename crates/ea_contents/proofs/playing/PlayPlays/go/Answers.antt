@@ -69,9 +69,11 @@ returns-clause-gone c = λ x turns at.
 pub returns-clause-fewer : goal.returns-clause-fewer
 returns-clause-fewer c = λ some.
     let (x, turns, at, is) = c.requires.scheduler in
-    is-fewer x turns c.args.self.now at c.args.me _
+    is-fewer x turns c.args.self.now at c.args.me
+    (record c.args.self.now { session = c.turn.new.self })
     (λ d t ss m at. step-stands d t ss m c.args.self.now at c.args.me
-    (has-play c.args.self.now c.args.me c.requires.scheduler).1 _ refl refl
+    (has-play c.args.self.now c.args.me c.requires.scheduler).1
+    (record c.args.self.now { session = c.turn.new.self }) refl refl
     c.in_ok-turn.ensures.stepped (sym (sym c.in_default.is ∙ c.waiting.ensures d t ss m at)))
     (ended-over x turns c.args.self.now at c.args.me c.ended.result
     (λ d t ss m at. sym c.in_default.is ∙ c.waiting.ensures d t ss m at)
