@@ -17,7 +17,8 @@ use Rattle.ea_machine.specs.Setup.{Setup, setup_of}
 use Rattle.ea_machine.specs.State.{State}
 use Rattle.ea_sound.specs.Entries.{Makes, Tells}
 use Rattle.ea_sound.specs.MachineLaws.{Protocol}
-use Rattle.ea_sound.specs.Turns.{is_ended, log_after}
+use Rattle.ea_machine.specs.Stops.{is_ended}
+use Rattle.ea_sound.specs.Turns.{log_after}
 use Rattle.ea_sound.proofs.Asked.{reached-rule}
 use Rattle.ea_sound.proofs.Completing.{rule-less}
 use Rattle.ea_sound.proofs.Protocols.{always-protocol}

@@ -8,7 +8,7 @@ use Rattle.ea_machine.specs.Setup.{Setup}
 use Rattle.ea_machine.specs.Shared.{put}
 use Rattle.ea_machine.specs.State.{State}
 use Rattle.ea_sound.proofs.Totals.{put-other}
-use Rattle.ea_sound.specs.Turns.{is_ended}
+use Rattle.ea_machine.specs.Stops.{is_ended}
 use Rattle.ea_sound.proofs.TurnLists.{ended-is, run-append, step-ended}
 use Rattle.ea_play.specs.Plays.{after_on}
 use Rattle.ea_contents.specs.declared.access.Access.{Access}

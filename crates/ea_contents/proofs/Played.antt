@@ -14,7 +14,7 @@ use Rattle.ea_machine.specs.Machine.{run}
 use Rattle.ea_machine.specs.Outcome.{outcome}
 use Rattle.ea_machine.specs.Setup.{Setup, setup_of}
 use Rattle.ea_machine.specs.State.{State}
-use Rattle.ea_sound.specs.Turns.{is_ended}
+use Rattle.ea_machine.specs.Stops.{is_ended}
 use Rattle.ea_play.specs.Plays.{Ends, over_after}
 use Rattle.ea_play.specs.Runs.{HasScheduler, HasSchedulers, IsOn}
 use Rattle.ea_play.proofs.Ending.{after-append, gone-none, gone-one}

@@ -21,7 +21,7 @@ use Rattle.ea_machine.specs.Shared.{put}
 use Rattle.ea_machine.specs.State.{State}
 use Rattle.ea_sound.specs.Over.{units_named}
 use Rattle.ea_sound.specs.Progress.{AllEnded}
-use Rattle.ea_sound.specs.Turns.{is_ended}
+use Rattle.ea_machine.specs.Stops.{is_ended}
 use Rattle.ea_play.specs.Plays.{Play, after}
 use Rattle.ea_play.specs.Plays as plays
 use Rattle.ea_contents.specs.declared.access.Access.{Access}

@@ -18,7 +18,7 @@ ghost use Rattle.ea_model.specs.Settings.{IsValidConfig, region_pages};
 ghost use Rattle.ea_model.specs.Trace.{IsValidTrace, is_scheduled};
 ghost use Rattle.ea_model.specs.declared.units.TheConstants.{PAGE_UNITS};
 ghost use Rattle.ea_sound.specs.Over.{LiesOver, units_named};
-ghost use Rattle.ea_sound.specs.Turns.{is_ended};
+ghost use Rattle.ea_machine.specs.Stops.{is_ended};
 
 use crate::access::Making;
 use crate::memory::Memory;

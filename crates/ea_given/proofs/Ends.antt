@@ -20,7 +20,7 @@ use Rattle.ea_machine.specs.State.{State}
 use Rattle.ea_machine.specs.Shared.{put}
 use Rattle.ea_machine.specs.Stops.{cut, left_after, left_by, less, run_with_stops, stop_at}
 use Rattle.ea_machine.specs.Stops.{stop_of, up_to}
-use Rattle.ea_sound.specs.Turns.{is_ended}
+use Rattle.ea_machine.specs.Stops.{is_ended}
 use Rattle.ea_sound.proofs.Completing.{ending-own, replicate-others}
 use Rattle.ea_sound.proofs.Schedules.{turns-more, turns_from}
 use Rattle.ea_sound.proofs.Stopping.{count-others, count-replicate, cut-append}

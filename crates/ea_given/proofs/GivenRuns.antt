@@ -15,7 +15,7 @@ use Rattle.ea_machine.specs.Machine.{run, run_on, start}
 use Rattle.ea_machine.specs.Setup.{setup_of}
 use Rattle.ea_machine.specs.State.{State}
 use Rattle.ea_machine.specs.Stops.{cut, left_after, left_by, run_with_stops}
-use Rattle.ea_sound.specs.Turns.{is_ended}
+use Rattle.ea_machine.specs.Stops.{is_ended}
 use Rattle.ea_sound.proofs.Protocols.{always-protocol}
 use Rattle.ea_sound.proofs.Stopping.{cut-append, cut-left, left-more, less-none}
 use Rattle.ea_sound.proofs.TurnLists.{run-append}

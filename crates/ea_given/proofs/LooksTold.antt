@@ -14,7 +14,7 @@ use Rattle.ea_machine.specs.Setup.{Setup, setup_of}
 use Rattle.ea_machine.specs.Shared.{Shared}
 use Rattle.ea_machine.specs.State.{State}
 use Rattle.ea_machine.specs.Stops.{cut, left_after, run_with_stops}
-use Rattle.ea_sound.specs.Turns.{is_ended}
+use Rattle.ea_machine.specs.Stops.{is_ended}
 use Rattle.ea_sound.proofs.PassedLooks.{search-passed}
 use Rattle.ea_sound.proofs.Stopping.{cut-append, cut-replicate}
 use Rattle.ea_sound.proofs.TurnLists.{run-append}

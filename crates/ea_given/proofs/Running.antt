@@ -18,7 +18,7 @@ use Rattle.ea_machine.specs.Shared.{Shared}
 use Rattle.ea_machine.specs.State.{State}
 use Rattle.ea_machine.specs.Statistics.{observed}
 use Rattle.ea_machine.specs.Table.{answer, effect}
-use Rattle.ea_sound.specs.Turns.{is_ended}
+use Rattle.ea_machine.specs.Stops.{is_ended}
 use Rattle.ea_sound.proofs.Asked.{reached-rule}
 use Rattle.ea_machine.specs.Stops.{less, up_to}
 use Rattle.ea_sound.proofs.Completing.{ending-none, ending-one, reached-run, reached-step}

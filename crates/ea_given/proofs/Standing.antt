@@ -9,7 +9,7 @@ use Rattle.ea_model.specs.Trace.{stop_in}
 use Rattle.ea_machine.specs.Actor.{Actor}
 use Rattle.ea_machine.specs.Setup.{setup_of}
 use Rattle.ea_machine.specs.Stops.{left_after, run_with_stops, stop_at}
-use Rattle.ea_sound.specs.Turns.{is_ended}
+use Rattle.ea_machine.specs.Stops.{is_ended}
 use Rattle.ea_sound.proofs.TurnLists.{ended-is}
 use Rattle.ea_sound.proofs.Stopping.{stop-same}
 use Rattle.ea_sched.specs.declared.state.Scheduler.{Scheduler}

@@ -16,7 +16,8 @@ use Rattle.ea_machine.specs.Owners.{word_of}
 use Rattle.ea_machine.specs.Setup.{Setup}
 use Rattle.ea_machine.specs.State.{State}
 use Rattle.ea_machine.specs.Stops.{left_after, run_with_stops, stop_of}
-use Rattle.ea_sound.specs.Turns.{answered, is_ended}
+use Rattle.ea_machine.specs.Stops.{is_ended}
+use Rattle.ea_sound.specs.Turns.{answered}
 use Rattle.ea_sched.specs.declared.state.Scheduler.{Scheduler}
 use Rattle.ea_sched.specs.declared.wants.Wanted.{Wanted}
 use Rattle.ea_sched.specs.Acting.{actor_of, is_over, rests, setup_for, stop_line}

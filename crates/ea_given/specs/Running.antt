@@ -12,7 +12,7 @@ use Rattle.ea_machine.specs.Setup.{Setup, migration, setup_of}
 use Rattle.ea_machine.specs.State.{State}
 use Rattle.ea_machine.specs.Machine.{IsReached, run_on}
 use Rattle.ea_machine.specs.Stops.{cut, left_by, less, up_to}
-use Rattle.ea_sound.specs.Turns.{is_ended}
+use Rattle.ea_machine.specs.Stops.{is_ended}
 use Rattle.ea_mem_shared.specs.Memory.{Sharing, shared_of}
 use Rattle.ea_sched.specs.declared.state.Scheduler.{Scheduler}
 use Rattle.ea_sched.specs.Acting.{actor_of, setup_for}

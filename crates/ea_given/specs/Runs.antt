@@ -13,7 +13,7 @@ use Rattle.ea_machine.specs.Nodes.{named_at, spot_named}
 use Rattle.ea_machine.specs.Setup.{Setup, setup_of}
 use Rattle.ea_machine.specs.State.{State}
 use Rattle.ea_machine.specs.Stops.{left_after, run_with_stops}
-use Rattle.ea_sound.specs.Turns.{is_ended}
+use Rattle.ea_machine.specs.Stops.{is_ended}
 use Rattle.ea_given.specs.declared.run.GivenRun.{GivenRun}
 use Rattle.ea_given.specs.Running.{AllStandAt, SharesAt, left_to}
 

@@ -1,5 +1,6 @@
 -- The turns until every scheduler has ended or is stopped.
-use Rattle.std.specs.Prelude.{ℕ, zero, suc, ◌+◌, ◌*◌, List, [], ◌∷◌, ◌++◌, Option, None, Some}
+use Rattle.std.specs.Prelude.{ℕ, zero, suc, ◌+◌, ◌*◌, List, [], ◌∷◌, Option, None, Some}
+use Rattle.std.specs.Prelude.{Bool, true, false, ◌||◌}
 use Rattle.std.specs.Prelude.{flat_map, length, replicate, sum_by}
 use Rattle.ea_model.specs.declared.operations.Op.{Op}
 use Rattle.ea_model.specs.declared.operations.Op.TheVariants as op
@@ -23,8 +24,10 @@ use Rattle.ea_machine.specs.Actor.{Actor}
 use Rattle.ea_machine.specs.declared.tasks.Why.TheVariants.{Walk, For}
 use Rattle.ea_machine.specs.State.{State}
 use Rattle.ea_machine.specs.Tasks.{later}
-use Rattle.ea_machine.specs.Machine.{run, run_on, step}
-use Rattle.ea_machine.specs.Stops.{cut, left_after, up_to}
+use Rattle.ea_machine.specs.Machine.{run, run_on, start}
+use Rattle.ea_machine.specs.Stops.{cut, is_ended, put_left, up_to}
+use Rattle.ea_play.specs.Plays.{Play}
+use Rattle.ea_play.specs.Plays as plays
 
 -- the rows of a release route that are left, at most
 abbrev pub route_rows : Route Content → ℕ
@@ -50,6 +53,17 @@ next_rows (Some node) = 9
 abbrev pub begin_rows : Option Node → ℕ
 begin_rows None = 11
 begin_rows (Some node) = 1
+
+-- no step is left until the stop
+abbrev pub is_stopped : Option ℕ → Bool
+is_stopped None = false
+is_stopped (Some zero) = true
+is_stopped (Some (suc left)) = false
+
+-- a state, and the steps that each scheduler has left until its stop, if it has one
+pub record Progress : Type 0 where
+  pub state : State
+  pub left : ℕ → Option ℕ
 
 module _ (setup : Setup) where
   -- the numbers that a search may still look at, the next one among them
@@ -104,32 +118,23 @@ module _ (setup : Setup) where
   work w me = 9 * length (w.shared.queues me) + 9 * length (w.shared.rests me)
       + actor_rows (w.actors me)
 
-  -- its turns until it has ended, but not more than that many
-  abbrev pub ending : ℕ → State → ℕ → Stage Content → List ℕ
-  ending most w me Ended = []
-  ending zero w me stage = []
-  ending (suc most) w me stage =
-      let v = step setup w me in me ∷ ending most v me (v.actors me).stage
+  -- the play of its run: a turn of a stopped scheduler is none
+  abbrev pub play_of : Play Progress
+  play_of = record {
+    schedulers = setup.schedulers;
+    start = record { state = start setup; left = setup.stops };
+    turn = λ p me. record {
+      state = run_on setup p.state (up_to (p.left me) (me ∷ []));
+      left = put_left (p.left me) p.left me;
+    };
+    is_over = λ p me. is_ended (p.state.actors me).stage || is_stopped (p.left me);
+    left = λ p me. work p.state me;
+  }
 
-  -- its turns until it has ended or, with that many steps left until its stop, is stopped
-  abbrev pub finishing : State → Option ℕ → ℕ → List ℕ
-  finishing w left me = up_to left (ending (work w me) w me (w.actors me).stage)
-
-  -- the turns until each of `count` schedulers from `me` on has ended or is stopped, one after
-  -- another, if each has that many steps left until its stop
-  abbrev pub completing : (ℕ → Option ℕ) → ℕ → ℕ → State → List ℕ
-  completing left zero me w = []
-  completing left (suc count) me w = finishing w (left me) me
-      ++ completing left count (suc me) (run_on setup w (finishing w (left me) me))
-
-  -- what completes these turns
-  abbrev pub completion : List ℕ → List ℕ
-  completion taken = completing (left_after setup taken) setup.schedulers 1 (run setup taken)
-
-  -- the turns of a schedule, each scheduler's up to its stop, then those of scheduler 1 until it
-  -- has ended or is stopped, then of scheduler 2, up to the last one
+  -- the turns of a schedule, then those of scheduler 1 until it has ended or is stopped, then of
+  -- scheduler 2, up to the last one; of them those that are taken, each scheduler's up to its stop
   abbrev pub complete : List ℕ → List ℕ
-  complete turns = let taken = cut setup.stops turns in taken ++ completion taken
+  complete turns = cut setup.stops (plays.complete play_of turns)
 
 -- the turns of a schedule, one number for each; another mode has none
 abbrev pub turns_in : Mode → List ℕ

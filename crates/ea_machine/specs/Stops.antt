@@ -1,5 +1,5 @@
 -- Schedulers that stop: which of its turns one takes, and what its log says of its stop.
-use Rattle.std.specs.Prelude.{ℕ, zero, suc, ◌-◌, ◌==◌, List, [], ◌∷◌, ◌++◌, Option, None, Some}
+use Rattle.std.specs.Prelude.{Bool, true, false, ℕ, zero, suc, ◌-◌, ◌==◌, List, [], ◌∷◌, ◌++◌, Option, None, Some}
 use Rattle.std.specs.Prelude.{count_by, take}
 use Rattle.ea_model.specs.Entries.{Entry}
 use Rattle.ea_model.specs.declared.entries.Entry.TheVariants as entry
@@ -41,6 +41,19 @@ count_of me turns = count_by (λ i. i == me) turns
 -- what is left to each scheduler once these turns are taken
 abbrev pub left_by : (ℕ → Option ℕ) → List ℕ → ℕ → Option ℕ
 left_by left turns me = less (left me) (count_of me turns)
+
+-- whether the text of a scheduler at this stage is done
+abbrev pub is_ended : Stage Content → Bool
+is_ended Begin = false
+is_ended (Routed route why gone) = false
+is_ended (Collecting number) = false
+is_ended (Searching ask at part) = false
+is_ended (Fetching ask at part seen) = false
+is_ended (Creating ask p) = false
+is_ended (Giving given to) = false
+is_ended (Taking name tries left) = false
+is_ended Ended = true
+is_ended Ready = false
 
 -- the entry of a stop, where no step is left until it
 abbrev pub stop_entry : Option ℕ → Option ℕ → List Entry

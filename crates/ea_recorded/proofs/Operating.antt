@@ -16,7 +16,7 @@ use Rattle.ea_machine.specs.State.{State}
 use Rattle.ea_machine.specs.declared.stages.Stage.{Stage}
 use Rattle.ea_machine.specs.declared.stages.Stage.TheVariants.{Ended}
 use Rattle.ea_machine.specs.Stops.{run_with_stops}
-use Rattle.ea_sound.specs.Turns.{is_ended}
+use Rattle.ea_machine.specs.Stops.{is_ended}
 use Rattle.ea_sound.proofs.Asked.{reached-rule}
 use Rattle.ea_sound.proofs.Completing.{reached-run, reached-step, rule-less}
 use Rattle.ea_sound.proofs.Growing.{same-going, same-log}

@@ -12,7 +12,7 @@ use Rattle.ea_machine.specs.Machine.{run_on, start, step}
 use Rattle.ea_machine.specs.Setup.{Setup, setup_of}
 use Rattle.ea_machine.specs.State.{State}
 use Rattle.ea_machine.specs.declared.stages.Stage.TheVariants.{Ended}
-use Rattle.ea_sound.specs.Turns.{is_ended}
+use Rattle.ea_machine.specs.Stops.{is_ended}
 use Rattle.ea_given.specs.Runs.{log_length}
 
 -- whether the operation of a scheduler is over that was its next one when its log had that many

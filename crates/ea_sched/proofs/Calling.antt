@@ -31,7 +31,7 @@ use Rattle.ea_machine.specs.Table.{answer}
 use Rattle.ea_machine.specs.Walks.{ready, with_passed, worked_off}
 use Rattle.ea_shared.specs.Calls.{Did, Told}
 use Rattle.ea_names.specs.Holding.{has_place}
-use Rattle.ea_sound.specs.Turns.{is_ended}
+use Rattle.ea_machine.specs.Stops.{is_ended}
 use Rattle.ea_sound.proofs.Calls as calls
 use Rattle.ea_sound.proofs.FewCreated.{created-counts}
 use Rattle.ea_sound.proofs.FewPassed.{passes-few}

@@ -17,7 +17,7 @@ use Rattle.ea_machine.specs.State.{State}
 use Rattle.ea_machine.specs.Statistics.{observed}
 use Rattle.ea_machine.specs.Table.{answer, effect}
 use Rattle.ea_shared.specs.Calls.{Caller, Did, HasEffect, KnowsFront, Told, TookStep, caller_of}
-use Rattle.ea_sound.specs.Turns.{is_ended}
+use Rattle.ea_machine.specs.Stops.{is_ended}
 use Rattle.ea_sound.proofs.OtherTurns.{actor-since}
 use Rattle.ea_sound.proofs.TurnLists.{run-append, step-mine, step-shared}
 use Rattle.ea_machine.specs.declared.stages.Stage.{Stage}

@@ -10,7 +10,7 @@ use Rattle.ea_machine.specs.declared.stages.Stage.TheVariants.{Begin, Routed, Co
 use Rattle.ea_machine.specs.declared.stages.Stage.TheVariants.{Fetching, Creating, Giving, Taking}
 use Rattle.ea_machine.specs.declared.stages.Stage.TheVariants.{Ended, Ready}
 use Rattle.ea_machine.specs.Stops.{stop_at, stop_entry}
-use Rattle.ea_sound.specs.Turns.{is_ended}
+use Rattle.ea_machine.specs.Stops.{is_ended}
 use Rattle.ea_sched.specs.declared.state.Scheduler.{Scheduler}
 use Rattle.ea_sched.specs.Acting.{is_over, rests, stop_entries}
 use Rattle.ea_sched.specs.Looks.{AreLeft}

@@ -9,7 +9,7 @@ use Rattle.ea_machine.specs.declared.stages.Stage.{Stage}
 use Rattle.ea_machine.specs.Actor.{Actor}
 use Rattle.ea_machine.specs.Stops.{stop_at}
 use Rattle.ea_machine.specs.Walks.{ready}
-use Rattle.ea_sound.specs.Turns.{is_ended}
+use Rattle.ea_machine.specs.Stops.{is_ended}
 use Rattle.ea_sched.specs.declared.state.Scheduler.{Scheduler}
 
 -- the setup of the run

@@ -4,7 +4,7 @@ use Rattle.std.specs.Prelude.{◌≡◌, ℕ, ◌-◌, ◌<◌, ◌≤◌, false
 use Rattle.ea_machine.specs.declared.asks.Ask.{Ask}
 use Rattle.ea_machine.specs.declared.parts.Part.TheVariants.{Pool}
 use Rattle.ea_machine.specs.declared.stages.Stage.TheVariants.{Searching}
-use Rattle.ea_sound.specs.Turns.{is_ended}
+use Rattle.ea_machine.specs.Stops.{is_ended}
 use Rattle.ea_shared.specs.Calls.{Told}
 use Rattle.ea_shared.specs.Carriers.{CountsNone}
 use Rattle.ea_sched.specs.declared.state.Scheduler.{Scheduler}

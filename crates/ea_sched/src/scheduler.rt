@@ -3,7 +3,7 @@ ghost use Rattle.std.specs.Prelude.{◌≡◌, ◌++◌, ◌≤◌, false, IfOk,
 ghost use Rattle.ea_model.specs.Settings.{IsValidConfig};
 ghost use Rattle.ea_model.specs.Trace.{IsValidTrace};
 ghost use Rattle.ea_machine.specs.Machine.{first_actor};
-ghost use Rattle.ea_sound.specs.Turns.{is_ended};
+ghost use Rattle.ea_machine.specs.Stops.{is_ended};
 ghost use Rattle.ea_sched.specs.Acting.{actor_of, is_stopped, setup_for, stop_entries};
 ghost use Rattle.ea_sched.specs.Acting.{stop_line};
 ghost use Rattle.ea_sched.specs.Acting as acting;

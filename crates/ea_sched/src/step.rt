@@ -6,7 +6,7 @@ ghost use Rattle.ea_machine.specs.declared.stages.Stage.TheVariants as stage;
 ghost use Rattle.ea_machine.specs.Setup.{migration};
 ghost use Rattle.ea_machine.specs.Statistics as statistics;
 ghost use Rattle.ea_machine.specs.Stops as stops;
-ghost use Rattle.ea_sound.specs.Turns.{is_ended};
+ghost use Rattle.ea_machine.specs.Stops.{is_ended};
 ghost use Rattle.ea_sched.specs.Acting.{IsSame, actor_of, rests, setup_for};
 ghost use Rattle.ea_sched.specs.Creations.{PlansAt};
 ghost use Rattle.ea_sched.specs.Looks.{AreLeft, IsQuiet, PassesLooks};

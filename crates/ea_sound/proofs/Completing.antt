@@ -2,7 +2,7 @@
 use Rattle.std.proofs.Common.{◌≡◌, ◌≢◌, ◌⊎◌, ℕ, zero, suc, ◌+◌, ◌*◌, ◌<◌, ◌≤◌, List, [], ◌∷◌, ◌++◌}
 use Rattle.std.proofs.Common.{Bool, true, false, refl, sym, ap, ◌∙◌, subst, inl, inr, arith, ◌-◌}
 use Rattle.std.specs.Prelude.{Option, Some, None, length, replicate, take}
-use Rattle.std.proofs.lemmas.Bool.{cases_eq, cases_lt}
+use Rattle.std.proofs.lemmas.Bool.{cases_Bool, cases_eq}
 use Rattle.ea_model.specs.declared.entries.Entry.TheVariants as entry
 use Rattle.ea_model.specs.Content.{Content}
 use Rattle.ea_machine.specs.Releases.{struck}
@@ -21,8 +21,9 @@ use Rattle.ea_machine.specs.Actor.{Actor}
 use Rattle.ea_machine.specs.declared.tasks.Why.{Why}
 use Rattle.ea_machine.specs.declared.tasks.Why.TheVariants.{Walk, For}
 use Rattle.ea_machine.specs.declared.tasks.Gone.{Gone}
-use Rattle.ea_machine.specs.Completion.{actor_rows, begin_rows, completing, ending, finishing}
-use Rattle.ea_machine.specs.Completion.{next_rows, passed_rows, stage_rows, work}
+use Rattle.ea_machine.specs.Completion.{Progress, actor_rows, begin_rows, complete, is_stopped}
+use Rattle.ea_machine.specs.Completion.{next_rows, passed_rows, play_of, stage_rows, work}
+use Rattle.ea_machine.specs.Courses.{Rests}
 use Rattle.ea_machine.specs.Machine.{IsReached, after_row, begins, first_stage, run, run_on, start}
 use Rattle.ea_machine.specs.Machine.{step, wants_at, wants_on}
 use Rattle.ea_machine.specs.Nodes.{Mark, first_node, link_in, pushed}
@@ -32,7 +33,11 @@ use Rattle.ea_machine.specs.Rows.{Answer, Done, Head, Rests, Passes, Saw, Won, L
 use Rattle.ea_machine.specs.Setup.{Setup, is_scheduler}
 use Rattle.ea_machine.specs.Shared.{Shared, put}
 use Rattle.ea_machine.specs.State.{State}
-use Rattle.ea_machine.specs.Stops.{count_of, cut, left_after, left_by, less, up_to}
+use Rattle.ea_machine.specs.Stops.{count_of, cut, is_ended, left_after, left_by, less, put_left}
+use Rattle.ea_machine.specs.Stops.{run_with_stops, up_to}
+use Rattle.ea_play.specs.Plays.{Ends, after, after_on, over_after}
+use Rattle.ea_play.specs.Plays as plays
+use Rattle.ea_play.proofs.Ending.{completes-all}
 use Rattle.ea_machine.specs.Table.{answer, effect, link_answer, link_read, moved_if, rest_after}
 use Rattle.ea_machine.specs.Table.{rest_by, tried_at}
 use Rattle.ea_machine.specs.Tasks.{let_go}
@@ -45,11 +50,11 @@ use Rattle.ea_sound.proofs.Ending.{created-less, fetched-less, logged-less, onwa
 use Rattle.ea_sound.proofs.Ending.{searched-less, task-route, took-less, walk-route, walk_rows}
 use Rattle.ea_sound.proofs.Ending.{whole_rows, worked-less}
 use Rattle.ea_sound.proofs.OtherRows.{linked-rest}
-use Rattle.ea_sound.proofs.Stopping.{count-append, count-others, count-replicate}
-use Rattle.ea_sound.proofs.Stopping.{cut-again, cut-append, cut-own, less-more}
-use Rattle.ea_sound.proofs.Stopping.{less-none, less-over, take-fewer, up_to-all, up_to-some}
+use Rattle.ea_sound.proofs.Stopping.{count-cons, cut-again, cut-left, less-more, less-none}
+use Rattle.ea_sound.proofs.Stopping.{less-over, mine, put-left-at, up_to-step}
 use Rattle.ea_sound.proofs.Totals.{put-here, put-other}
-use Rattle.ea_sound.proofs.TurnLists.{by-turns, ended-or, run-append, run-snoc, step-ended}
+use Rattle.ea_sound.proofs.TurnLists.{by-turns, ended-is, not-ended, run-append, run-snoc}
+use Rattle.ea_sound.proofs.TurnLists.{step-ended}
 use Rattle.ea_sound.proofs.TurnLists.{step-mine, step-other, step-shared}
 
 -- what a step that leaves less work begins with: a node is pushed to another scheduler's queue, and
@@ -240,270 +245,6 @@ module _ (e : Setup) where
     onward-less e s (advanced e w s),
   )
 
-  -- running to the end
-  pub reached-step : (w : State) (s : ℕ) → IsReached e w → IsReached e (step e w s)
-  reached-step w s r = (r.0 ++ s ∷ [], ap (λ v. step e v s) r.1 ∙ sym (run-snoc e r.0 s))
-
-  pub reached-run : (w : State) (js : List ℕ) → IsReached e w → IsReached e (run_on e w js)
-  reached-run w [] r = r
-  reached-run w (j ∷ js) r = reached-run (step e w j) js (reached-step w j r)
-
-  pub ending-none : (most : ℕ) (w : State) (s : ℕ) → ending e most w s Ended ≡ []
-  ending-none zero w s = refl
-  ending-none (suc most) w s = refl
-
-  pub ending-one : (most : ℕ) (w : State) (s : ℕ) (st : Stage Content) → st ≢ Ended
-      → ending e (suc most) w s st
-      ≡ s ∷ ending e most (step e w s) s ((step e w s).actors s).stage
-  ending-one most w s Ended ne = absurd (ne refl)
-  ending-one most w s Begin ne = refl
-  ending-one most w s (Routed r y g) ne = refl
-  ending-one most w s (Collecting c) ne = refl
-  ending-one most w s (Searching ask n part) ne = refl
-  ending-one most w s (Fetching ask n part seen) ne = refl
-  ending-one most w s (Creating ask p) ne = refl
-  ending-one most w s (Giving h to) ne = refl
-  ending-one most w s (Taking n tries left) ne = refl
-  ending-one most w s Ready ne = refl
-
-  ending-zero : (w : State) (s : ℕ) (st : Stage Content) → ending e zero w s st ≡ []
-  ending-zero w s Ended = refl
-  ending-zero w s Begin = refl
-  ending-zero w s (Routed r y g) = refl
-  ending-zero w s (Collecting c) = refl
-  ending-zero w s (Searching ask n part) = refl
-  ending-zero w s (Fetching ask n part seen) = refl
-  ending-zero w s (Creating ask p) = refl
-  ending-zero w s (Giving h to) = refl
-  ending-zero w s (Taking n tries left) = refl
-  ending-zero w s Ready = refl
-
-  -- they are its own turns
-  pub ending-own : (most : ℕ) (w : State) (s : ℕ) (st : Stage Content)
-      → (n : ℕ) × (ending e most w s st ≡ replicate n s)
-  ending-own zero w s st = (0, ending-zero w s st)
-  ending-own (suc most) w s st =
-      elim (ended-or st) [
-        | inl q ↦ (0, ap (ending e (suc most) w s) q ∙ ending-none (suc most) w s)
-        | inr going ↦
-            let (n, is) = ending-own most (step e w s) s ((step e w s).actors s).stage in
-            (suc n, ending-one most w s st going ∙ ap (λ js. s ∷ js) is)
-      ]
-
-  pub replicate-others : (n : ℕ) (w : State) (s j : ℕ) → j ≢ s
-      → (run_on e w (replicate n s)).actors j ≡ w.actors j
-  replicate-others zero w s j ne = refl
-  replicate-others (suc n) w s j ne =
-      replicate-others n (step e w s) s j ne ∙ step-other e w s j ne
-
-  -- who has ended stays so
-  pub ended-on : (w : State) (js : List ℕ) (s : ℕ) → (w.actors s).stage ≡ Ended
-      → ((run_on e w js).actors s).stage ≡ Ended
-  ended-on w [] s q = q
-  ended-on w (j ∷ js) s q = ended-on (step e w j) js s (elim (cases_eq j s) [
-    | inl i ↦ ap (λ (v : State). (v.actors s).stage)
-        (ap (step e w) i ∙ step-ended e w s q) ∙ q
-    | inr ne ↦ ap (λ (a : Actor). a.stage) (step-other e w j s (λ i. ne (sym i))) ∙ q
-  ])
-
-  -- the scheduler has ended, or no step is left until its stop
-  abbrev RestsAt : State → Option ℕ → ℕ → Type 0
-  RestsAt w left s = ((w.actors s).stage ≡ Ended) ⊎ (left ≡ Some 0)
-
-  rests-on : (w : State) (left : Option ℕ) (js : List ℕ) (s : ℕ) → RestsAt w left s
-      → RestsAt (run_on e w js) (less left (count_of s js)) s
-  rests-on w left js s (inl q) = inl (ended-on w js s q)
-  rests-on w left js s (inr q) = inr (less-over left (count_of s js) q)
-
-  -- who is no scheduler has ended from the start
-  pub outside : (s : ℕ) → is_scheduler e s ≡ false → (L : List ℕ)
-      → ((run e L).actors s).stage ≡ Ended
-  outside s o = by-turns (λ L. ((run e L).actors s).stage ≡ Ended)
-      (λ L j q. elim (cases_eq j s) [
-        | inl i ↦ ap (λ (w : State). (w.actors s).stage)
-            (run-snoc e L j ∙ ap (step e (run e L)) i ∙ step-ended e (run e L) s q) ∙ q
-        | inr ne ↦ ap (λ (w : State). (w.actors s).stage) (run-snoc e L j)
-            ∙ ap (λ (a : Actor). a.stage) (step-other e (run e L) j s (λ i. ne (sym i))) ∙ q
-      ])
-      (ap (first_stage e) o)
-
-  -- nobody else's turns are among those of its end
-  finishing-others : (w : State) (left : Option ℕ) (s j : ℕ) → j ≢ s
-      → count_of j (finishing e w left s) ≡ 0
-  finishing-others w left s j ne =
-      let own = ending-own (work e w s) w s (w.actors s).stage in
-      let some = up_to-some left own.0 s in
-      ap (λ js. count_of j (up_to left js)) own.1 ∙ ap (count_of j) some.1
-      ∙ count-others some.0 s j (λ q. ne (sym q))
-
-  -- by what is left to those that are still to come
-  completing-alike : (f g : ℕ → Option ℕ) (count s : ℕ) (w : State)
-      → ((i : ℕ) → s ≤ i → f i ≡ g i) → completing e f count s w ≡ completing e g count s w
-  completing-alike f g zero s w same = refl
-  completing-alike f g (suc count) s w same =
-      ap (λ o. finishing e w o s
-      ++ completing e f count (suc s) (run_on e w (finishing e w o s))) (same s (omega arith))
-      ∙ ap (λ later. finishing e w (g s) s ++ later)
-      (completing-alike f g count (suc s) (run_on e w (finishing e w (g s) s))
-      (λ i from. same i (omega (arith, from))))
-
-  -- all of these turns are taken
-  cut-completing : (left : ℕ → Option ℕ) (count s : ℕ) (w : State)
-      → cut left (completing e left count s w) ≡ completing e left count s w
-  cut-completing left zero s w = refl
-  cut-completing left (suc count) s w =
-      cut-append left first later
-      ∙ ap (λ xs. xs ++ cut next later) taken
-      ∙ ap (λ xs. first ++ xs) (ap (cut next) same
-      ∙ cut-completing next count (suc s) v ∙ sym same)
-    where
-      first : List ℕ
-      first = finishing e w (left s) s
-
-      v : State
-      v = run_on e w first
-
-      later : List ℕ
-      later = completing e left count (suc s) v
-
-      next : ℕ → Option ℕ
-      next = left_by left first
-
-      taken : cut left first ≡ first
-      taken = let own = ending-own (work e w s) w s (w.actors s).stage in
-          ap (λ js. cut left (up_to (left s) js)) own.1 ∙ cut-own left own.0 s
-          ∙ ap (up_to (left s)) (sym own.1)
-
-      same : later ≡ completing e next count (suc s) v
-      same = completing-alike left next count (suc s) v (λ i from. sym
-          (ap (less (left i)) (finishing-others w (left s) s i (omega (arith, from)))
-          ∙ less-none (left i)))
-
-  pub completes-within : CompletesWithin e
-  completes-within turns =
-      let taken = cut e.stops turns in
-      let left = left_by e.stops taken in
-      let more = completing e left e.schedulers 1 (run e taken) in
-      cut-append e.stops taken more
-      ∙ ap (λ xs. xs ++ cut left more) (cut-again e.stops turns)
-      ∙ ap (λ xs. taken ++ xs) (cut-completing left e.schedulers 1 (run e taken))
-
-  module _ (resting : (L : List ℕ) (s : ℕ) → ((run e L).actors s).stage ≢ Ready)
-      (elsewhere : (L : List ℕ) (s : ℕ) → LeavesLess s ((run e L).actors s).stage) where
-    never-ready : (w : State) (s : ℕ) → IsReached e w → (w.actors s).stage ≢ Ready
-    never-ready w s r =
-        subst (λ (v : State). (v.actors s).stage ≢ Ready) (sym r.1) (resting r.0 s)
-
-    pushes : (w : State) (s : ℕ) → IsReached e w → LeavesLess s (w.actors s).stage
-    pushes w s r =
-        subst (λ (v : State). LeavesLess s (v.actors s).stage) (sym r.1) (elsewhere r.0 s)
-
-    ends : (most : ℕ) (w : State) (s : ℕ) → IsReached e w → work e w s ≤ most
-        → ((run_on e w (ending e most w s (w.actors s).stage)).actors s).stage ≡ Ended
-    ends zero w s r l =
-        elim (ended-or (w.actors s).stage) [
-          | inl q ↦ ap (λ js. ((run_on e w js).actors s).stage)
-              (ending-zero w s (w.actors s).stage) ∙ q
-          | inr n ↦ absurd (omega (
-            arith,
-            l,
-            step-less w s n (never-ready w s r) (pushes w s r),
-          ))
-        ]
-    ends (suc most) w s r l =
-        elim (ended-or (w.actors s).stage) [
-          | inl q ↦ ap (λ t. ((run_on e w (ending e (suc most) w s t)).actors s).stage) q
-              ∙ ap (λ js. ((run_on e w js).actors s).stage) (ending-none (suc most) w s) ∙ q
-          | inr n ↦ ap (λ js. ((run_on e w js).actors s).stage)
-              (ending-one most w s (w.actors s).stage n)
-              ∙ ends most (step e w s) s (reached-step w s r)
-              (omega (arith, l, step-less w s n (never-ready w s r) (pushes w s r)))
-        ]
-
-    -- a scheduler that alone steps has ended after as many turns as it has work, at most
-    finishes : (w : State) (s : ℕ) → IsReached e w
-        → ((run_on e w (ending e (work e w s) w s (w.actors s).stage)).actors s).stage ≡ Ended
-    finishes w s r = ends (work e w s) w s r (omega arith)
-
-    -- or it is stopped before
-    halts : (w : State) (left : Option ℕ) (s : ℕ) → IsReached e w
-        → RestsAt (run_on e w (finishing e w left s))
-        (less left (count_of s (finishing e w left s))) s
-    halts w None s r = inl (finishes w s r)
-    halts w (Some k) s r = by (ending-own (work e w s) w s (w.actors s).stage) where
-      all : List ℕ
-      all = ending e (work e w s) w s (w.actors s).stage
-
-      none : (k : ℕ) → k - k ≡ 0
-      none k = omega arith
-
-      by : (n : ℕ) × (all ≡ replicate n s)
-          → RestsAt (run_on e w (take k all)) (less (Some k) (count_of s (take k all))) s
-      by own = elim (cases_lt k own.0) [
-        | inl below ↦ inr (ap (λ js. less (Some k) (count_of s js))
-            (ap (take k) own.1 ∙ take-fewer k own.0 s (omega (arith, below)))
-            ∙ ap (less (Some k)) (count-replicate k s) ∙ ap Some (none k))
-        | inr past ↦ inl (ap (λ js. ((run_on e w js).actors s).stage)
-            (ap (take k) own.1 ∙ up_to-all k own.0 s (omega (arith, past)) ∙ sym own.1)
-            ∙ finishes w s r)
-      ]
-
-    module _ (left : ℕ → Option ℕ) where
-      completes : (count s : ℕ) (w : State) (j : ℕ) (o : Option ℕ) → IsReached e w
-          → RestsAt w o j ⊎ ((s ≤ j) × (j < s + count) × (o ≡ left j))
-          → RestsAt (run_on e w (completing e left count s w))
-          (less o (count_of j (completing e left count s w))) j
-      completes zero s w j o r (inl q) = rests-on w o [] j q
-      completes zero s w j o r (inr l) = absurd (omega (arith, l.0, l.1))
-      completes (suc count) s w j o r h =
-          let first = finishing e w (left s) s in
-          let v = run_on e w first in
-          let later = completing e left count (suc s) v in
-          let now = less o (count_of j first) in
-          subst (λ (u : State). RestsAt u (less o (count_of j (first ++ later))) j)
-          (sym (run-append e w first later))
-          (subst (λ p. RestsAt (run_on e v later) p j)
-          (less-more o (count_of j first) (count_of j later)
-          ∙ ap (less o) (sym (count-append j first later)))
-          (completes count (suc s) v j now (reached-run w first r)
-          (elim (cases_eq j s) [
-            | inl q ↦ inl (elim h [
-              | inl rests ↦ rests-on w o first j rests
-              | inr l ↦ subst (λ p. RestsAt v (less p (count_of j first)) j) (sym l.2)
-                  (subst (λ i. RestsAt v (less (left i) (count_of i first)) i) (sym q)
-                  (halts w (left s) s r))
-            ])
-            | inr ne ↦ elim h [
-              | inl rests ↦ inl (rests-on w o first j rests)
-              | inr l ↦ inr (
-                omega (arith, l.0, ne),
-                omega (arith, l.1),
-                ap (less o) (finishing-others w (left s) s j ne) ∙ less-none o ∙ l.2,
-              )
-            ]
-          ])))
-
-    -- after the schedule and then one scheduler after another, all have ended or are stopped
-    all-rest : AllComeToRest e
-    all-rest turns s =
-        let taken = cut e.stops turns in
-        let w = run e taken in
-        let left = left_after e taken in
-        let more = completing e left e.schedulers 1 w in
-        subst (λ (u : State). RestsAt u (left_after e (taken ++ more) s) s)
-        (sym (run-append e (start e) taken more))
-        (subst (λ p. RestsAt (run_on e w more) p s)
-        (less-more (e.stops s) (count_of s taken) (count_of s more)
-        ∙ ap (less (e.stops s)) (sym (count-append s taken more)))
-        (completes left e.schedulers 1 w s (left s) (taken, refl)
-        (by (is_scheduler e s) refl taken (left s))))
-      where
-        by : (b : Bool) → is_scheduler e s ≡ b → (taken : List ℕ) (o : Option ℕ)
-            → RestsAt (run e taken) o s
-            ⊎ ((1 ≤ s) × (s < 1 + e.schedulers) × (o ≡ o))
-        by true t taken o = inr (grind (arith, t), grind (arith, t), refl)
-        by false t taken o = inl (inl (outside s t taken))
-
 -- by the rule it does
 module _ (e : Setup) (w : State) (s : ℕ) where
   route-less : (r : Route Content) (y : Why) (g : Gone) → FitsRoute e w.shared s r
@@ -538,8 +279,138 @@ rule-less e w s rule ne =
     step-less e w s ne (λ ready. subst (Fits e w s (w.actors s)) ready fits)
     (fits-less e w s (w.actors s) (w.actors s).stage fits)
 
-pub rule-all_rest : (e : Setup) → ((turns : List ℕ) → Rule e (run e turns)) → AllComeToRest e
-rule-all_rest e rule = all-rest e
-    (λ L s q. subst (Fits e (run e L) s ((run e L).actors s)) q ((rule L).present.fits s)) (λ L s.
-    fits-less e (run e L) s ((run e L).actors s) ((run e L).actors s).stage
-    ((rule L).present.fits s))
+module _ (e : Setup) where
+  -- running to the end
+  pub reached-step : (w : State) (s : ℕ) → IsReached e w → IsReached e (step e w s)
+  reached-step w s r = (r.0 ++ s ∷ [], ap (λ v. step e v s) r.1 ∙ sym (run-snoc e r.0 s))
+
+  pub reached-run : (w : State) (js : List ℕ) → IsReached e w → IsReached e (run_on e w js)
+  reached-run w [] r = r
+  reached-run w (j ∷ js) r = reached-run (step e w j) js (reached-step w j r)
+
+  pub replicate-others : (n : ℕ) (w : State) (s j : ℕ) → j ≢ s
+      → (run_on e w (replicate n s)).actors j ≡ w.actors j
+  replicate-others zero w s j ne = refl
+  replicate-others (suc n) w s j ne =
+      replicate-others n (step e w s) s j ne ∙ step-other e w s j ne
+
+  -- who has ended stays so
+  pub ended-on : (w : State) (js : List ℕ) (s : ℕ) → (w.actors s).stage ≡ Ended
+      → ((run_on e w js).actors s).stage ≡ Ended
+  ended-on w [] s q = q
+  ended-on w (j ∷ js) s q = ended-on (step e w j) js s (elim (cases_eq j s) [
+    | inl i ↦ ap (λ (v : State). (v.actors s).stage)
+        (ap (step e w) i ∙ step-ended e w s q) ∙ q
+    | inr ne ↦ ap (λ (a : Actor). a.stage) (step-other e w j s (λ i. ne (sym i))) ∙ q
+  ])
+
+  -- who is no scheduler has ended from the start
+  pub outside : (s : ℕ) → is_scheduler e s ≡ false → (L : List ℕ)
+      → ((run e L).actors s).stage ≡ Ended
+  outside s o = by-turns (λ L. ((run e L).actors s).stage ≡ Ended)
+      (λ L j q. elim (cases_eq j s) [
+        | inl i ↦ ap (λ (w : State). (w.actors s).stage)
+            (run-snoc e L j ∙ ap (step e (run e L)) i ∙ step-ended e (run e L) s q) ∙ q
+        | inr ne ↦ ap (λ (w : State). (w.actors s).stage) (run-snoc e L j)
+            ∙ ap (λ (a : Actor). a.stage) (step-other e (run e L) j s (λ i. ne (sym i))) ∙ q
+      ])
+      (ap (first_stage e) o)
+
+  pub completes-within : CompletesWithin e
+  completes-within turns = cut-again e.stops (plays.complete (play_of e) turns)
+
+  -- where the play stands after turns: those that are taken lead to its state
+  after-state : (p : Progress) (turns : List ℕ)
+      → (after_on (play_of e) p turns).state ≡ run_on e p.state (cut p.left turns)
+  after-state p [] = refl
+  after-state p (me ∷ turns) =
+      let first = up_to (p.left me) (me ∷ []) in
+      after-state ((play_of e).turn p me) turns
+      ∙ sym (run-append e p.state first (cut (put_left (p.left me) p.left me) turns))
+
+  after-left : (p : Progress) (turns : List ℕ) (i : ℕ)
+      → (after_on (play_of e) p turns).left i ≡ left_by p.left turns i
+  after-left p [] i = sym (less-none (p.left i))
+  after-left p (me ∷ turns) i =
+      after-left ((play_of e).turn p me) turns i
+      ∙ ap (λ o. less o (count_of i turns)) (put-left-at (p.left me) p.left me i refl)
+      ∙ less-more (p.left i) (mine i me) (count_of i turns)
+      ∙ ap (less (p.left i)) (sym (count-cons i me turns))
+
+  pub play-state : (turns : List ℕ) → (after (play_of e) turns).state ≡ run_with_stops e turns
+  play-state turns = after-state (play_of e).start turns
+
+  pub play-left : (turns : List ℕ) (i : ℕ)
+      → (after (play_of e) turns).left i ≡ left_after e turns i
+  play-left turns i = after-left (play_of e).start turns i
+
+  stopped-is : (o : Option ℕ) → is_stopped o ≡ true → o ≡ Some 0
+  stopped-is None is = absurd cc
+  stopped-is (Some zero) is = refl
+  stopped-is (Some (suc n)) is = absurd cc
+
+  stopped-not : (o : Option ℕ) → is_stopped o ≡ false → o ≢ Some 0
+  stopped-not o is = λ q. let no : true ≡ false = ap is_stopped (sym q) ∙ is in cc
+
+  either : (a b : Bool) → (a || b) ≡ true → (a ≡ true) ⊎ (b ≡ true)
+  either true b is = inl refl
+  either false b is = inr is
+
+  both-no : (a b : Bool) → (a || b) ≡ false → (a ≡ false) × (b ≡ false)
+  both-no true b is = absurd cc
+  both-no false b is = (refl, is)
+
+  -- who is over has ended or is stopped
+  over-rests : (turns : List ℕ) (s : ℕ) → over_after (play_of e) turns s ≡ true
+      → Rests e (cut e.stops turns) s
+  over-rests turns s over =
+      let p = after (play_of e) turns in
+      elim (either (is_ended (p.state.actors s).stage) (is_stopped (p.left s)) over) [
+        | inl ended ↦ inl (ap (λ (w : State). (w.actors s).stage) (sym (play-state turns))
+            ∙ ended-is (p.state.actors s).stage ended)
+        | inr over ↦ inr (cut-left e.stops turns s ∙ sym (play-left turns s)
+            ∙ stopped-is (p.left s) over)
+      ]
+
+  module _ (rule : (turns : List ℕ) → Rule e (run e turns)) where
+    turn-less : (turns : List ℕ) (s : ℕ) → over_after (play_of e) turns s ≡ false
+        → (let p = after (play_of e) turns in
+        work e ((play_of e).turn p s).state s < work e p.state s)
+    turn-less turns s going =
+        let p = after (play_of e) turns in
+        let both = both-no (is_ended (p.state.actors s).stage) (is_stopped (p.left s)) going in
+        subst (λ js. work e (run_on e p.state js) s < work e p.state s)
+        (sym (up_to-step (p.left s) s (stopped-not (p.left s) both.1)))
+        (rule-less e p.state s (subst (Rule e) (sym (play-state turns)) (rule (cut e.stops turns)))
+        (not-ended (p.state.actors s).stage both.0))
+
+    stays-over : (p : Progress) (s j : ℕ) → (play_of e).is_over p s ≡ true
+        → (play_of e).is_over ((play_of e).turn p j) s ≡ true
+    stays-over p s j over =
+        let q = (play_of e).turn p j in
+        elim (either (is_ended (p.state.actors s).stage) (is_stopped (p.left s)) over) [
+          | inl ended ↦ ap (λ st. is_ended st || is_stopped (q.left s))
+              (ended-on p.state (up_to (p.left j) (j ∷ [])) s
+              (ended-is (p.state.actors s).stage ended))
+          | inr over ↦ or-true (is_ended (q.state.actors s).stage)
+              (ap is_stopped (put-left-at (p.left j) p.left j s refl
+              ∙ less-over (p.left s) (mine s j) (stopped-is (p.left s) over)))
+        ]
+      where
+        or-true : (a : Bool) {b : Bool} → b ≡ true → (a || b) ≡ true
+        or-true true is = refl
+        or-true false is = is
+
+    pub play-ends : Ends (play_of e)
+    play-ends = record {
+      less = turn-less;
+      stays = λ turns s j over. stays-over (after (play_of e) turns) s j over;
+    }
+
+    -- after the schedule and then one scheduler after another, all have ended or are stopped
+    pub rule-all_rest : AllComeToRest e
+    rule-all_rest turns s = elim (cases_Bool (is_scheduler e s)) [
+      | inl is ↦ over-rests (plays.complete (play_of e) turns) s
+          (completes-all (play_of e) play-ends turns s (grind (arith, is)) (grind (arith, is)))
+      | inr not ↦ inl (outside s not (complete e turns))
+    ]

@@ -8,7 +8,8 @@ use Rattle.ea_machine.specs.Machine.{run, run_on, start, step}
 use Rattle.ea_machine.specs.Setup.{Setup}
 use Rattle.ea_machine.specs.State.{State}
 use Rattle.ea_sound.specs.Entries.{EntersOne}
-use Rattle.ea_sound.specs.Turns.{is_ended, log_after}
+use Rattle.ea_machine.specs.Stops.{is_ended}
+use Rattle.ea_sound.specs.Turns.{log_after}
 use Rattle.ea_sound.proofs.TurnLists.{ended-is, run-append, run-snoc, step-ended}
 
 -- a run in which a scheduler takes steps

@@ -187,7 +187,7 @@ up_to-more (Some n) k j me = ap (take n) (sym (replicate-append-replicate k j me
 
 -- by what is left after them
 module _ where
-  put-left-at : (o : Option ℕ) (left : ℕ → Option ℕ) (me i : ℕ) → left me ≡ o
+  pub put-left-at : (o : Option ℕ) (left : ℕ → Option ℕ) (me i : ℕ) → left me ≡ o
       → put_left o left me i ≡ less (left i) (mine i me)
   put-left-at None left me i is = elim (cases_eq me i) [
     | inl q ↦ ap left (sym q) ∙ is ∙ sym (ap (λ p. less p (mine i me)) (ap left (sym q) ∙ is))

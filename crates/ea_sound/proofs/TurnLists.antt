@@ -14,7 +14,8 @@ use Rattle.ea_machine.specs.Setup.{Setup}
 use Rattle.ea_machine.specs.State.{State}
 use Rattle.ea_machine.specs.Statistics.{observed}
 use Rattle.ea_machine.specs.Table.{answer, effect}
-use Rattle.ea_sound.specs.Turns.{advanced, is_ended}
+use Rattle.ea_machine.specs.Stops.{is_ended}
+use Rattle.ea_sound.specs.Turns.{advanced}
 use Rattle.ea_sound.specs.Moments.{with_actor}
 use Rattle.ea_sound.proofs.Totals.{put-here, put-other}
 

@@ -1,32 +1,15 @@
--- What a scheduler does in one step of a run. `is_ended` says whether its text is done.
-use Rattle.std.specs.Prelude.{◌≡◌, ℕ, Bool, true, false, List, Some}
-use Rattle.ea_model.specs.Content.{Content}
+-- What a scheduler does in one step of a run.
+use Rattle.std.specs.Prelude.{◌≡◌, ℕ, List, Some}
 use Rattle.ea_model.specs.Entries.{Entry}
 use Rattle.ea_machine.specs.declared.nodes.Named.{Named}
 use Rattle.ea_machine.specs.Nodes.{named_at}
 use Rattle.ea_machine.specs.Setup.{Setup}
-use Rattle.ea_machine.specs.declared.stages.Stage.{Stage}
-use Rattle.ea_machine.specs.declared.stages.Stage.TheVariants.{Begin, Routed, Collecting, Searching}
-use Rattle.ea_machine.specs.declared.stages.Stage.TheVariants.{Fetching, Creating, Giving, Taking}
-use Rattle.ea_machine.specs.declared.stages.Stage.TheVariants.{Ended, Ready}
+use Rattle.ea_machine.specs.declared.stages.Stage.TheVariants.{Ready}
 use Rattle.ea_machine.specs.Actor.{Actor}
 use Rattle.ea_machine.specs.State.{State}
 use Rattle.ea_machine.specs.Rows.{Answer}
 use Rattle.ea_machine.specs.Table.{answer}
 use Rattle.ea_machine.specs.Machine.{after_row, run, wants}
-
--- whether the text of a scheduler at this stage is done
-abbrev pub is_ended : Stage Content → Bool
-is_ended Begin = false
-is_ended (Routed route why gone) = false
-is_ended (Collecting number) = false
-is_ended (Searching ask at part) = false
-is_ended (Fetching ask at part seen) = false
-is_ended (Creating ask p) = false
-is_ended (Giving given to) = false
-is_ended (Taking name tries left) = false
-is_ended Ended = true
-is_ended Ready = false
 
 -- the answer of the row that a scheduler wants
 abbrev pub answered : State → ℕ → Answer

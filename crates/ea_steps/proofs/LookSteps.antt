@@ -27,7 +27,7 @@ use Rattle.ea_machine.specs.State.{State}
 use Rattle.ea_machine.specs.Statistics.{employed_multis, employed_singles}
 use Rattle.ea_machine.specs.Stops.{less, stop_at, stop_entry}
 use Rattle.ea_machine.specs.Table.{answer}
-use Rattle.ea_sound.specs.Turns.{is_ended}
+use Rattle.ea_machine.specs.Stops.{is_ended}
 use Rattle.ea_sound.proofs.Completing.{replicate-others}
 use Rattle.ea_sound.proofs.KeyedWeights.{times}
 use Rattle.ea_steps.specs.Changes.{contents, stopped}

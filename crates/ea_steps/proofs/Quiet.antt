@@ -10,7 +10,7 @@ use Rattle.ea_model.specs.Content.{Content}
 use Rattle.ea_machine.specs.Outcome.{Present, present}
 use Rattle.ea_machine.specs.Setup.{Setup}
 use Rattle.ea_machine.specs.Sums.{one_if}
-use Rattle.ea_sound.specs.Turns.{is_ended}
+use Rattle.ea_machine.specs.Stops.{is_ended}
 use Rattle.ea_sound.proofs.KeyedWeights.{times}
 use Rattle.ea_steps.specs.Changes.{added, blocks, blocks_in, contents, gone, has_carrier}
 use Rattle.ea_steps.specs.Changes.{by_name, is_released, is_renamed, is_shrunk, logged, made, pages_of}

@@ -14,7 +14,7 @@ use Rattle.ea_machine.specs.Machine.{run, run_on, start, step}
 use Rattle.ea_machine.specs.Setup.{Setup}
 use Rattle.ea_machine.specs.Shared.{put}
 use Rattle.ea_machine.specs.State.{State}
-use Rattle.ea_sound.specs.Turns.{is_ended}
+use Rattle.ea_machine.specs.Stops.{is_ended}
 use Rattle.ea_sound.proofs.Totals.{put-here, put-other}
 use Rattle.ea_steps.specs.Steps.{Step, count_unless, own_count, step_of, step_unless, steps_from}
 use Rattle.ea_steps.specs.Steps.{steps_of}

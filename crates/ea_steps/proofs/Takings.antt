@@ -11,7 +11,7 @@ use Rattle.ea_machine.specs.Machine.{run, run_on, start, step}
 use Rattle.ea_machine.specs.Setup.{Setup}
 use Rattle.ea_machine.specs.State.{State}
 use Rattle.ea_machine.specs.Stops.{cut, left_after, left_by, less, run_with_stops, up_to}
-use Rattle.ea_sound.specs.Turns.{is_ended}
+use Rattle.ea_machine.specs.Stops.{is_ended}
 use Rattle.ea_sound.proofs.Stopping.{count-replicate, cut-append, cut-replicate, left-more, up_to-all}
 use Rattle.ea_sound.proofs.Stopping.{up_to-over, up_to-some}
 use Rattle.ea_sound.proofs.TurnLists.{run-append}

@@ -16,7 +16,7 @@ use Rattle.ea_machine.specs.Stops.{count_of, cut, left_after, less, run_with_sto
 use Rattle.ea_machine.specs.Stops.{stop_of}
 use Rattle.ea_sound.specs.Rule.{Kept}
 use Rattle.ea_sound.specs.Places.{has_number}
-use Rattle.ea_sound.specs.Turns.{is_ended}
+use Rattle.ea_machine.specs.Stops.{is_ended}
 use Rattle.ea_sound.proofs.KeyedWeights.{times}
 use Rattle.ea_sound.proofs.Printed.{printed-all}
 use Rattle.ea_sound.proofs.SoundOwners.{number-once}

@@ -20,7 +20,7 @@ use Rattle.ea_machine.specs.Setup.{Setup, setup_of}
 use Rattle.ea_machine.specs.State.{State}
 use Rattle.ea_machine.specs.Stops.{cut, left_after, run_with_stops}
 use Rattle.ea_report.specs.Text.{carrier_text, totals_text}
-use Rattle.ea_sound.specs.Turns.{is_ended}
+use Rattle.ea_machine.specs.Stops.{is_ended}
 use Rattle.ea_sound.proofs.Asked.{reached-rule}
 use Rattle.ea_sound.proofs.Completing.{reached-run, reached-step, rule-less}
 use Rattle.ea_sound.proofs.Schedules.{turns-more, turns_from}

@@ -8,7 +8,8 @@ use Rattle.ea_machine.specs.Rows.{Answer, Row}
 use Rattle.ea_machine.specs.Setup.{Setup}
 use Rattle.ea_machine.specs.Shared.{put}
 use Rattle.ea_machine.specs.State.{State}
-use Rattle.ea_sound.specs.Turns.{answered, is_ended}
+use Rattle.ea_machine.specs.Stops.{is_ended}
+use Rattle.ea_sound.specs.Turns.{answered}
 
 -- a step: its place among the steps of the run, and among those of its scheduler, both from 1; and
 -- the states before and after it

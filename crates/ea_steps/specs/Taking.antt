@@ -5,7 +5,7 @@ use Rattle.ea_machine.specs.Completion.{finishing}
 use Rattle.ea_machine.specs.Machine.{run_on}
 use Rattle.ea_machine.specs.Setup.{Setup}
 use Rattle.ea_machine.specs.Stops.{cut, left_after, run_with_stops, up_to}
-use Rattle.ea_sound.specs.Turns.{is_ended}
+use Rattle.ea_machine.specs.Stops.{is_ended}
 use Rattle.ea_steps.specs.Groups.{Group}
 use Rattle.ea_steps.specs.Steps.{Step, own_count, step_of, steps_of}
 use Rattle.ea_steps.specs.declared.counts.Counts.{Counts}

@@ -11,7 +11,7 @@ use Rattle.ea_machine.specs.Completion.{course_of}
 use Rattle.ea_machine.specs.Outcome.{outcome_of}
 use Rattle.ea_machine.specs.Setup.{Setup, setup_of}
 use Rattle.ea_report.specs.Text.{carrier_text, entry_text, kind_text, line, totals_text}
-use Rattle.ea_sound.specs.Turns.{is_ended}
+use Rattle.ea_machine.specs.Stops.{is_ended}
 use Rattle.ea_steps.specs.declared.placed.PlacedBlock.{PlacedBlock}
 use Rattle.ea_steps.specs.Changes.{gone, logged, made, pages_of, released, shrunk}
 use Rattle.ea_steps.specs.declared.joined.Joined.{Joined}

@@ -31,7 +31,7 @@ use Rattle.ea_machine.specs.Stops.{left_after}
 use Rattle.ea_machine.specs.Actor.{Actor}
 use Rattle.ea_machine.specs.Machine.{first_actor, run}
 use Rattle.ea_machine.specs.Setup.{setup_of}
-use Rattle.ea_sound.specs.Turns.{is_ended}
+use Rattle.ea_machine.specs.Stops.{is_ended}
 use Rattle.ea_shared.specs.Calls.{Caller}
 use Rattle.ea_sched.specs.Acting.{actor_of, is_over, rests, setup_for}
 use Rattle.ea_sched.specs.declared.state.Scheduler.{Scheduler}

@@ -15,7 +15,8 @@ use Rattle.ea_machine.specs.State.{State}
 use Rattle.ea_shared.specs.Calls.{Caller, KnowsFront, caller_of}
 use Rattle.ea_sound.specs.Entries.{Tells}
 use Rattle.ea_sound.specs.OwnWork.{own_work}
-use Rattle.ea_sound.specs.Turns.{is_ended, log_after}
+use Rattle.ea_machine.specs.Stops.{is_ended}
+use Rattle.ea_sound.specs.Turns.{log_after}
 use Rattle.ea_sound.proofs.OtherTurns.{rest-since}
 use Rattle.ea_sound.proofs.OwnWork.{own-less}
 use Rattle.ea_sound.proofs.Protocols.{always-protocol}

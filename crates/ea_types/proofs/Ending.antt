@@ -14,7 +14,7 @@ use Rattle.ea_model.specs.Trace.{IsValidTrace}
 use Rattle.ea_machine.specs.Machine.{step}
 use Rattle.ea_machine.specs.Setup.{is_scheduler, setup_of}
 use Rattle.ea_machine.specs.State.{State}
-use Rattle.ea_sound.specs.Turns.{is_ended}
+use Rattle.ea_machine.specs.Stops.{is_ended}
 use Rattle.ea_sound.proofs.Asked.{reached-rule}
 use Rattle.ea_sound.proofs.Completing.{outside, rule-less}
 use Rattle.ea_sound.proofs.Totals.{put-other}

@@ -17,7 +17,7 @@ use Rattle.ea_model.specs.Outcome.{plain_outcome}
 use Rattle.ea_model.specs.Trace.{listed}
 use Rattle.ea_machine.specs.Outcome.{outcome}
 use Rattle.ea_machine.specs.Stops.{cut}
-use Rattle.ea_sound.specs.Turns.{is_ended}
+use Rattle.ea_machine.specs.Stops.{is_ended}
 use Rattle.ea_given.specs.declared.run.GivenRun.{GivenRun}
 use Rattle.ea_given.specs.Runs as one
 use Rattle.ea_types.specs.declared.given.TypedRun.{TypedRun}

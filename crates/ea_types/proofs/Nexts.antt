@@ -6,7 +6,7 @@ use Rattle.std.specs.List.{range_with_len}
 use Rattle.std.proofs.lemmas.List.{append-nil, append_assoc, drop_all, drop_more}
 use Rattle.std.proofs.lemmas.List.Elements.{All-append, All-cons, All-nil}
 use Rattle.ea_machine.specs.State.{State}
-use Rattle.ea_sound.specs.Turns.{is_ended}
+use Rattle.ea_machine.specs.Stops.{is_ended}
 use Rattle.ea_types.specs.Turning.{after_by, after_first, first_going, going_or}
 use Rattle.ea_types.proofs.OwnRuns.{is-same}
 use Rattle.ea_types.proofs.Turns.{after-passed, first-after, range-All}

@@ -8,7 +8,7 @@ use Rattle.std.proofs.lemmas.List.{append_assoc}
 use Rattle.ea_machine.specs.Machine.{run_on, step}
 use Rattle.ea_machine.specs.Setup.{Setup}
 use Rattle.ea_machine.specs.State.{State}
-use Rattle.ea_sound.specs.Turns.{is_ended}
+use Rattle.ea_machine.specs.Stops.{is_ended}
 use Rattle.ea_sound.proofs.Totals.{put-here, put-other}
 use Rattle.ea_given.specs.Runs.{log_length}
 use Rattle.ea_types.specs.Turning.{Standing, Types, first_going, lines_after}

@@ -12,7 +12,7 @@ use Rattle.ea_machine.specs.Completion.{work}
 use Rattle.ea_machine.specs.Machine.{IsReached, step}
 use Rattle.ea_machine.specs.Shared.{put}
 use Rattle.ea_machine.specs.State.{State}
-use Rattle.ea_sound.specs.Turns.{is_ended}
+use Rattle.ea_machine.specs.Stops.{is_ended}
 use Rattle.ea_sound.proofs.Completing.{reached-step}
 use Rattle.ea_sound.proofs.TextTotals.{All-back}
 use Rattle.ea_sound.proofs.Totals.{put-here, put-other}

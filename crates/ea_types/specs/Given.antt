@@ -10,7 +10,7 @@ use Rattle.ea_model.specs.Outcome.{plain_outcome}
 use Rattle.ea_model.specs.Settings.{IsValidConfig}
 use Rattle.ea_model.specs.Trace.{IsScheduler, IsValidTrace}
 use Rattle.ea_machine.specs.Outcome.{outcome}
-use Rattle.ea_sound.specs.Turns.{is_ended}
+use Rattle.ea_machine.specs.Stops.{is_ended}
 use Rattle.ea_given.specs.declared.run.GivenRun.{GivenRun}
 use Rattle.ea_given.specs.Runs as one
 use Rattle.ea_given.specs.Runs.{done_after, left_in}

@@ -10,7 +10,7 @@ use Rattle.ea_machine.specs.Machine.{run, start, step}
 use Rattle.ea_machine.specs.Setup.{Setup}
 use Rattle.ea_machine.specs.Shared.{put}
 use Rattle.ea_machine.specs.State.{State}
-use Rattle.ea_sound.specs.Turns.{is_ended}
+use Rattle.ea_machine.specs.Stops.{is_ended}
 use Rattle.ea_given.specs.Runs.{log_length}
 use Rattle.ea_play.specs.Plays.{Play, after, after_on}
 use Rattle.ea_play.specs.Plays as plays

@@ -2,7 +2,7 @@ use Rattle.std.proofs.Common.{◌≡◌, true, false, inl, inr, refl, sym, ap, �
 use Rattle.std.proofs.lemmas.Result.{on_err_weaker, on_ok_weaker}
 use Rattle.ea_machine.specs.declared.stages.Stage.TheVariants.{Begin, Routed, Collecting}
 use Rattle.ea_machine.specs.declared.stages.Stage.TheVariants.{Fetching, Creating}
-use Rattle.ea_sound.specs.Turns.{is_ended}
+use Rattle.ea_machine.specs.Stops.{is_ended}
 use Rattle.ea_sched.proofs.Doing.{restaged, restaged-plans}
 use Rattle.ea_sched.proofs.StandsOn.{never-ready}
 use Rattle.ea_sched.proofs.state.Scheduler.do_row.Goals as goal

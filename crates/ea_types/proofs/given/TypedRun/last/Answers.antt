@@ -1,6 +1,6 @@
 use Rattle.std.proofs.Common.{◌≡◌, ◌<◌, refl, sym, ap, ◌∙◌, subst, inl, inr, arith, length, true}
 use Rattle.std.proofs.lemmas.Bool.{cases_lt}
-use Rattle.ea_sound.specs.Turns.{is_ended}
+use Rattle.ea_machine.specs.Stops.{is_ended}
 use Rattle.ea_types.specs.Courses.{types_of}
 use Rattle.ea_types.specs.Turning.{stands_after}
 use Rattle.ea_types.proofs.Finds.{last-ended, last-found, lines-are}

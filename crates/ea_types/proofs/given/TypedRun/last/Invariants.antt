@@ -4,7 +4,7 @@ use Rattle.ea_model.specs.declared.trace.Trace.{Trace}
 use Rattle.ea_types.specs.Courses.{types_of}
 use Rattle.ea_types.specs.Given.{StandsAfter}
 use Rattle.std.proofs.Common.{true}
-use Rattle.ea_sound.specs.Turns.{is_ended}
+use Rattle.ea_machine.specs.Stops.{is_ended}
 use Rattle.ea_types.specs.Turning.{stands_after}
 use Rattle.ea_types.proofs.given.TypedRun.last.Given as goal
 
