@@ -1,7 +1,6 @@
 -- A line more of an input is taken.
 use Rattle.std.proofs.Common.{◌≡◌, ℕ, true, false, List, [], ◌∷◌, ◌++◌, Ok, map, refl, sym, ap}
 use Rattle.std.proofs.Common.{subst, ◌∙◌, append_assoc, append-nil}
-use Rattle.std.specs.Borrow.{Bor}
 use Rattle.std.specs.Prelude.{Option, None}
 use Rattle.ea_model.specs.declared.trace.Trace.{Trace}
 use Rattle.ea_model.proofs.Reversed.{newest-first}
@@ -10,7 +9,6 @@ use Rattle.ea_trace.specs.Language.{LineWords, WordLines, trace_of}
 use Rattle.ea_trace.specs.Lines.{line_of_words}
 use Rattle.ea_trace.specs.Taken.{HasTaken}
 use Rattle.ea_trace.specs.declared.reader.TraceReader.{TraceReader}
-use Rattle.ea_frame.specs.Lines.{rest_lines}
 use Rattle.ea_contents.specs.Language.{and_line, blanked, is_access}
 use Rattle.ea_contents.specs.Reading.{Knows, Reads}
 use Rattle.ea_contents.specs.declared.accesses.Accesses.{Accesses}
@@ -47,10 +45,3 @@ module _ (n : ℕ) (all : WordLines) (l : LineWords) (left : WordLines) (trace :
 pub all-taken : (n : ℕ) (all : WordLines) (trace : TraceReader) (a : Accesses) (t : Trace)
     (r : Reads n all [] trace a) → trace_of n r.taken ≡ Ok t → trace_of n (map blanked all) ≡ Ok t
 all-taken n all trace a t r ok = sym (ap (trace_of n) (sym (append-nil r.taken) ∙ r.rest)) ∙ ok
-
--- none is left at the end of the text
-pub reads-end : (n : ℕ) (all : WordLines) (trace : TraceReader) (a : Accesses)
-    (rest : Option (Bor (List ℕ))) → rest ≡ None → Reads n all (rest_lines rest) trace a
-    → Reads n all [] trace a
-reads-end n all trace a rest e r =
-    subst (λ ls. Reads n all ls trace a) (ap rest_lines e) r

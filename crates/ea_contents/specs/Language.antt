@@ -17,6 +17,8 @@ use Rattle.ea_trace.specs.Language.{no_stops, section_operations, sections, trac
 use Rattle.ea_trace.specs.Lines.{both_words, line_of_words, name_in, pair, three_words, triple}
 use Rattle.ea_trace.specs.declared.fault.TraceFault.{TraceFault}
 use Rattle.ea_trace.specs.declared.fault.TraceFault.TheVariants as fault
+use Rattle.ea_trace.specs.declared.fault.Reason.{Reason}
+use Rattle.ea_trace.specs.declared.fault.Reason.TheVariants.{Syntax, NotHeld}
 use Rattle.ea_contents.specs.declared.access.Access.{Access}
 use Rattle.ea_contents.specs.declared.access.Access.TheVariants.{Read, Write}
 use Rattle.ea_contents.specs.Model.{Script}
@@ -85,17 +87,16 @@ pub record Request : Type 0 where
   pub trace : Trace
   pub script : Script
 
-abbrev pub refused_at : (ℕ → TraceFault) → Option ℕ → Result Request TraceFault
-    → Result Request TraceFault
-refused_at refusal (Some n) read = Err (refusal n)
-refused_at refusal None read = read
+abbrev pub refused_at : Reason → Option ℕ → Result Request TraceFault → Result Request TraceFault
+refused_at reason (Some n) read = Err (fault.At n reason)
+refused_at reason None read = read
 
 -- the same by its trace: first that is refused, then a malformed or misplaced line, then one of a
 -- name that isn't held
 abbrev pub request_by : WordLines → Answer → Result Request TraceFault
 request_by ls (Err f) = Err f
-request_by ls (Ok t) = refused_at fault.Syntax (first_so is_misplaced [] ls)
-    (refused_at fault.NotHeld (first_so is_unheld [] ls)
+request_by ls (Ok t) = refused_at Syntax (first_so is_misplaced [] ls)
+    (refused_at NotHeld (first_so is_unheld [] ls)
     (Ok (record { trace = t; script = accesses_from [] ls })))
 
 abbrev pub request_of : ℕ → WordLines → Result Request TraceFault

@@ -16,7 +16,7 @@ use crate::access::Access;
 use crate::input::{ContentsInput, Placed};
 use crate::lines::access_in;
 use ea_model::{List, OutOfMemory, Trace};
-use ea_trace::{TraceFault, TraceReader};
+use ea_trace::{Reason, TraceFault, TraceReader};
 use std::alloc::Global;
 
 /// The lists of that many schedulers, before the first write or read.
@@ -138,10 +138,10 @@ impl Accesses {
             → IfOk result (λ i. All IsRising (sections_of i)) }
     {
         if let Some(line) = self.misplaced {
-            return Err(TraceFault::Syntax { line });
+            return Err(TraceFault::At(line, Reason::Syntax));
         }
         if let Some(line) = self.unheld {
-            return Err(TraceFault::NotHeld { line });
+            return Err(TraceFault::At(line, Reason::NotHeld));
         }
         Ok(ContentsInput {
             trace,

@@ -12,8 +12,7 @@ ghost use Rattle.ea_contents.specs.Script.{IsRising, sections_of};
 use crate::accesses::Accesses;
 use crate::input::ContentsInput;
 use crate::lines::is_access;
-use ea_model::OutOfMemory;
-use ea_model::words::first_line;
+use ea_model::{Lines, OutOfMemory};
 use ea_trace::{Line, TraceFault, TraceReader, read_line};
 use std::alloc::Global;
 
@@ -56,11 +55,9 @@ pub fn read_contents(
 {
     let mut trace = TraceReader::new(alloc, schedulers)?;
     let mut accesses = Accesses::new(alloc, schedulers)?;
-    let mut rest = Some(bytes);
-    while let Some(text) = rest {
-        let (line, after) = first_line(text);
+    let mut lines = Lines::new(bytes);
+    while let Some((_, line)) = lines.next() {
         take(alloc, &mut trace, &mut accesses, line)?;
-        rest = after;
     }
     accesses.finish(trace.finish()?)
 }

@@ -47,12 +47,7 @@ module _ (language : Language) (c : Config) (input : List ℕ) where
   -- what is refused isn't good, but for want of memory
   refused_good : (f : TraceFault) → IsRefused language c input f → IsGood language c input
       → refusal_status f ≡ 5
-  refused_good (trace.Syntax line) h g = absurd (subst (λ r. IsOkAnd r (λ x. Unit {0})) h g)
-  refused_good (trace.BadScheduler line) h g = absurd (subst (λ r. IsOkAnd r (λ x. Unit {0})) h g)
-  refused_good (trace.NameReused line) h g = absurd (subst (λ r. IsOkAnd r (λ x. Unit {0})) h g)
-  refused_good (trace.NotHeld line) h g = absurd (subst (λ r. IsOkAnd r (λ x. Unit {0})) h g)
-  refused_good (trace.NotAddressed line) h g = absurd (subst (λ r. IsOkAnd r (λ x. Unit {0})) h g)
-  refused_good (trace.TooMany line) h g = absurd (subst (λ r. IsOkAnd r (λ x. Unit {0})) h g)
+  refused_good (trace.At line reason) h g = absurd (subst (λ r. IsOkAnd r (λ x. Unit {0})) h g)
   refused_good trace.NoEnd h g = absurd (subst (λ r. IsOkAnd r (λ x. Unit {0})) h g)
   refused_good trace.OutOfMemory h g = refl
 

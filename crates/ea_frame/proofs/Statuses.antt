@@ -11,12 +11,7 @@ use Rattle.ea_frame.specs.Faults.{status_of, refusal_status}
 
 -- a refused input ends with 2, and want of memory with 5
 pub refused_ends : (f : TraceFault) → (refusal_status f ≡ 2) ⊎ (refusal_status f ≡ 5)
-refused_ends (trace.Syntax line) = inl refl
-refused_ends (trace.BadScheduler line) = inl refl
-refused_ends (trace.NameReused line) = inl refl
-refused_ends (trace.NotHeld line) = inl refl
-refused_ends (trace.NotAddressed line) = inl refl
-refused_ends (trace.TooMany line) = inl refl
+refused_ends (trace.At line reason) = inl refl
 refused_ends trace.NoEnd = inl refl
 refused_ends trace.OutOfMemory = inr refl
 

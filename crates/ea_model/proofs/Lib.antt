@@ -1,6 +1,5 @@
 pub mod Filed
 pub mod First
-pub mod Lines
 pub mod Merged
 pub mod Needs
 pub mod NumberedItems

@@ -5,7 +5,7 @@
 use Rattle.std.specs.Prelude.{◌≡◌, ℕ, ◌+◌, ◌*◌, ◌≤◌, ◌⊎◌, max, Bool, true, false, ◌&&◌, ◌||◌, ◌==◌}
 use Rattle.std.specs.Prelude.{List, [], ◌∷◌, ◌++◌, All, count_by, flat_map, length, map}
 use Rattle.std.specs.Prelude.{Option, None, Some, if◌then◌else◌}
-use Rattle.std.specs.Prelude.{slice_index_or, sum_by}
+use Rattle.std.specs.Prelude.{nat_lt, slice_index_or, sum_by}
 use Rattle.std.specs.List.{list_any}
 use Rattle.ea_model.specs.Lists.{Items}
 use Rattle.ea_model.specs.declared.operations.Op.{Op}
@@ -99,6 +99,25 @@ gives_to k i o = false
 abbrev pub tries_of : Op → ℕ
 tries_of (Take name tries) = tries
 tries_of o = 0
+
+-- the number of no scheduler of n
+abbrev pub is_outside : ℕ → ℕ → Bool
+is_outside n k = (k == 0) || nat_lt n k
+
+-- whether an operation gives to no scheduler of n
+abbrev pub gives_outside : ℕ → Op → Bool
+gives_outside n (Give name to) = is_outside n to
+gives_outside n o = false
+
+-- the name that an operation brings to its scheduler, if it brings one
+abbrev pub name_brought : Op → Option ℕ
+name_brought (Alloc name bytes) = Some name
+name_brought (Free name) = None
+name_brought (Realloc old fresh bytes) = Some fresh
+name_brought (Give name to) = None
+name_brought (Take name tries) = Some name
+name_brought Info = None
+name_brought Idle = None
 
 -- the greatest name of an operation, or 0
 abbrev pub greatest_in : Op → ℕ

@@ -17,6 +17,11 @@ is_space b = (b == 32) || ((b == 9) || (b == 13))
 abbrev pub lines : List ℕ → List (List ℕ)
 lines bytes = slice_split is_feed bytes
 
+-- the lines that are left of a text, in order, and how many came before them
+pub record LinesLeft : Type 0 where
+  pub left : List (List ℕ)
+  pub number : ℕ
+
 abbrev pub is_word : List ℕ → Bool
 is_word [] = false
 is_word (b ∷ bs) = true

@@ -5,6 +5,7 @@
 pub mod carriers;
 pub mod entries;
 pub mod keyed;
+pub mod lines;
 pub mod lists;
 pub mod logs;
 pub mod operations;
@@ -20,9 +21,10 @@ pub use carriers::{
     Kind, OwnCarrier, Place, Segment, Spot, Standing, Totals, first_number, owner_of,
 };
 pub use entries::{Entry, NoCarrier, Report, Reports, Triple};
+pub use lines::Lines;
 pub use lists::{List, OutOfMemory};
 pub use logs::Log;
-pub use operations::Op;
+pub use operations::{Op, is_nobody};
 pub use outcome::Outcome;
 pub use reallocation::{Decision, Where};
 pub use settings::{Config, Letter, NO_RULES, Rules, Settings, Strategy};

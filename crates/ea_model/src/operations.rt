@@ -22,6 +22,13 @@ pub enum Op {
     Idle,
 }
 
+/// Whether none of the schedulers 1 to `schedulers` has that number.
+pub fn is_nobody(schedulers: u32, number: u32) -> bool
+    ensures { result ≡ traces.is_outside schedulers number }
+{
+    number == 0 || number > schedulers
+}
+
 impl Op {
     /// The greatest name of the operation, or 0.
     pub fn greatest_in(self) -> u32
@@ -34,6 +41,36 @@ impl Op {
             | Op::Take { name, .. } => { name }
             Op::Realloc { old, fresh, .. } => old.max(fresh),
             Op::Info | Op::Idle => 0,
+        }
+    }
+    /// The tries that the operation asks for.
+    pub fn tries(self) -> u32
+        ensures { result ≡ traces.tries_of self }
+    {
+        match self {
+            Op::Take { tries, .. } => tries,
+            _ => 0,
+        }
+    }
+
+    /// Whether the operation gives a name to none of the schedulers 1 to `schedulers`.
+    pub fn gives_outside(self, schedulers: u32) -> bool
+        ensures { result ≡ traces.gives_outside schedulers self }
+    {
+        match self {
+            Op::Give { to, .. } => is_nobody(schedulers, to),
+            _ => false,
+        }
+    }
+
+    /// The name that the operation brings to its scheduler, if it brings one.
+    pub fn name_brought(self) -> Option<u32>
+        ensures { result ≡ traces.name_brought self }
+    {
+        match self {
+            Op::Alloc { name, .. } | Op::Take { name, .. } => Some(name),
+            Op::Realloc { fresh, .. } => Some(fresh),
+            Op::Free { .. } | Op::Give { .. } | Op::Info | Op::Idle => None,
         }
     }
 }

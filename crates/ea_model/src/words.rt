@@ -1,11 +1,11 @@
-//! Lines, words and numbers of a text.
-ghost use Rattle.std.specs.Prelude.{◌≡◌, ◌+◌, ◌<◌, take, false, ◌≤◌, ◌∷◌, [], length, IfSome, fold};
+//! Words and numbers of a text.
+ghost use Rattle.std.specs.Prelude.{◌≡◌, ◌<◌, take, false, ◌≤◌, ◌∷◌, [], length, IfSome, fold};
 ghost use Rattle.std.specs.Prelude.{if◌then◌else◌, Some, None};
-ghost use Rattle.std.specs.List.{slice_split, list_all, list_any};
+ghost use Rattle.std.specs.List.{list_all, list_any};
 ghost use Rattle.std.specs.Char.{is_ascii_digit};
 ghost use Rattle.std.specs.Option.{option_map_or};
 ghost use Rattle.ea_model.specs.declared.units.TheConstants.{MAX_DIGITS};
-ghost use Rattle.ea_model.specs.Words.{is_feed, is_space, lines, words, number, numeral_value};
+ghost use Rattle.ea_model.specs.Words.{is_space, words, number, numeral_value};
 
 use crate::units::MAX_DIGITS;
 
@@ -14,20 +14,6 @@ fn is_space(byte: u8) -> bool
     ensures { result ≡ Rattle.ea_model.specs.Words.is_space byte }
 {
     matches!(byte, b' ' | b'\t' | b'\r')
-}
-
-/// The first line, and what follows its line feed.
-pub fn first_line(text: &[u8]) -> (&[u8], Option<&[u8]>)
-    ensures lines { lines text.now ≡ result.0.now ∷ option_map_or (λ rest. lines rest.now) result.1
-        [] }
-    ensures shorter { IfSome result.1 (λ rest. length rest.now < length text.now) }
-{
-    for i in 0..text.len() {
-        if text[i] == b'\n' {
-            return (&text[..i], Some(&text[i + 1..]));
-        }
-    }
-    (text, None)
 }
 
 /// The first word, and what follows it.

@@ -2,23 +2,23 @@
 use Rattle.std.proofs.Common.{◌≡◌, ◌≢◌, ℕ, ◌+◌, ◌<◌, ◌≤◌, ◌||◌, ◌==◌, Bool, true, false, List, []}
 use Rattle.std.proofs.Common.{◌∷◌, ◌++◌, Option, Some, None, Ok, Err, length, map, refl, sym, ap}
 use Rattle.std.proofs.Common.{subst, ◌∙◌, arith}
-use Rattle.std.specs.Borrow.{Bor}
 use Rattle.std.specs.Option.{option_map_or}
 use Rattle.std.specs.Prelude.{All, IfSome, Result, bytes_eq, codes, if◌then◌else◌, nat_lt}
 use Rattle.std.proofs.lemmas.List.{length-append, length-map, map-append}
 use Rattle.std.proofs.lemmas.List.Elements.{All-append, All-cons, All-nil}
-use Rattle.ea_model.specs.Trace.{IsScheduler, plain}
+use Rattle.ea_model.specs.Trace.{IsScheduler, gives_outside, is_outside, plain}
 use Rattle.ea_model.specs.declared.operations.Op.{Op}
 use Rattle.ea_model.specs.declared.operations.Op.TheVariants.{Alloc}
 use Rattle.ea_model.specs.declared.settings.Letter.{Letter}
 use Rattle.ea_model.specs.declared.settings.Rules.{Rules}
 use Rattle.ea_model.specs.declared.settings.TheConstants.{NO_RULES}
 use Rattle.ea_model.specs.declared.trace.Trace.{Trace}
-use Rattle.ea_trace.specs.Language.{Answer, Gives, LineWords, WordLines, gives_outside, is_outside}
+use Rattle.ea_trace.specs.Language.{Answer, Gives, LineWords, WordLines}
 use Rattle.ea_trace.specs.Language.{trace_of}
 use Rattle.ea_trace.specs.Lines.{Said, line_of_words, scheduler_in}
 use Rattle.ea_trace.specs.declared.fault.TraceFault.{TraceFault}
 use Rattle.ea_trace.specs.declared.fault.TraceFault.TheVariants as fault
+use Rattle.ea_trace.specs.declared.fault.Reason.TheVariants.{Syntax, BadScheduler}
 use Rattle.ea_trace.specs.declared.lines.Line.TheVariants as said
 use Rattle.ea_recorded.specs.Input.{GivesInput}
 use Rattle.ea_recorded.specs.Language.{Asked, Told, addressed, after_first, answer_in, asked_by}
@@ -162,31 +162,27 @@ module _ (n number : ℕ) (asked : Asked) (ws : LineWords) (left : WordLines) (r
   refused-by f e = reads.gives ∙ ap (λ o. refused_by o later) e
 
   pub syntax-gives : (stands : Bool) → stands ≡ may_stand r.stage l → stands ≡ false
-      → asked ≡ Err (fault.Syntax r.number)
-  syntax-gives stands is wrong =
-      refused-by (fault.Syntax number) (rw (sym is ∙ wrong) refl)
-      ∙ ap (λ k. Err (fault.Syntax k)) (sym reads.count)
+      → asked ≡ Err (fault.At number Syntax)
+  syntax-gives stands is wrong = refused-by (fault.At number Syntax) (rw (sym is ∙ wrong) refl)
 
   pub bad-gives : (stands bad : Bool) → stands ≡ may_stand r.stage l → bad ≡ is_bad r.schedulers l
-      → stands ≡ true → bad ≡ true → asked ≡ Err (fault.BadScheduler r.number)
+      → stands ≡ true → bad ≡ true → asked ≡ Err (fault.At number BadScheduler)
   bad-gives stands bad is are good known =
-      refused-by (fault.BadScheduler number) (rw (
+      refused-by (fault.At number BadScheduler) (rw (
         sym is ∙ good,
         ap (λ k. is_bad k l) (sym reads.schedulers) ∙ sym are ∙ known,
       ) refl)
-      ∙ ap (λ k. Err (fault.BadScheduler k)) (sym reads.count)
 
   accepted : may_stand r.stage l ≡ true → is_bad n l ≡ false
       → refusal n number r.stage l ≡ None
   accepted stands good = rw (stands, good) refl
 
   reads-by : may_stand r.stage l ≡ true → is_bad n l ≡ false → (s : Reading)
-      → s.schedulers ≡ r.schedulers → s.number ≡ r.number + 1 → s.stage ≡ next r.stage l
+      → s.schedulers ≡ r.schedulers → s.stage ≡ next r.stage l
       → AreTold (reads.told ++ told_by number ws l) s.lines.items
       → Reads n asked (number + 1) left s
-  reads-by stands good s schedulers count stage told = record {
+  reads-by stands good s schedulers stage told = record {
     schedulers = schedulers ∙ reads.schedulers;
-    count = count ∙ ap (λ k. k + 1) reads.count;
     told = reads.told ++ told_by number ws l;
     own = told;
     theirs = subst (All (IsScheduler n))
@@ -206,15 +202,14 @@ module _ (n number : ℕ) (asked : Asked) (ws : LineWords) (left : WordLines) (r
 
   pub reads-more : (stands bad : Bool) → stands ≡ may_stand r.stage l
       → bad ≡ is_bad r.schedulers l → stands ≡ true → bad ≡ false → (s : Reading)
-      → s.schedulers ≡ r.schedulers → s.number ≡ r.number + 1 → s.stage ≡ next r.stage l
+      → s.schedulers ≡ r.schedulers → s.stage ≡ next r.stage l
       → ((told : ToldLines) → AreTold told r.lines.items
-      → AreTold (told ++ told_by r.number ws l) s.lines.items)
+      → AreTold (told ++ told_by number ws l) s.lines.items)
       → Reads n asked (number + 1) left s
-  reads-more stands bad is are good fine s schedulers count stage more =
+  reads-more stands bad is are good fine s schedulers stage more =
       reads-by (sym is ∙ good)
-      (ap (λ k. is_bad k l) (sym reads.schedulers) ∙ sym are ∙ fine) s schedulers count stage
-      (subst (λ k. AreTold (reads.told ++ told_by k ws l) s.lines.items) reads.count
-      (more reads.told reads.own))
+      (ap (λ k. is_bad k l) (sym reads.schedulers) ∙ sym are ∙ fine) s schedulers stage
+      (more reads.told reads.own)
 
 -- what is said of a line that was read is said of its words
 
@@ -236,19 +231,7 @@ pub said-told : (ws : LineWords) (l : RecordedLine) (number : ℕ) (told : ToldL
 said-told ws l number told new e are =
     subst (λ k. AreTold (told ++ told_by number ws k) new) e are
 
--- the rest after a line feed is shorter than what stood before it
-pub fewer-left : (rest : Option (Bor (List ℕ))) (number more size all : ℕ) → more ≡ number + 1
-    → IfSome rest (λ r. length r.now < size) → number + size + 1 ≤ all
-    → option_map_or (λ r. more + length r.now + 1) rest more ≤ all
-fewer-left None number more size all is e le = omega (arith, le, is)
-fewer-left (Some r) number more size all is e le = omega (arith, e, le, is)
-
--- the reading has the number of the next line, and fewer lines of operations
-pub at-number : (n : ℕ) (asked : Asked) (number : ℕ) (left : WordLines) (r : Reading)
-    → Reads n asked number left r → Reads n asked r.number left r
-at-number n asked number left r reads =
-    subst (λ k. Reads n asked k left r) (sym reads.count) reads
-
+-- fewer lines of operations than the number of the next line
 pub few-lines : (n : ℕ) (asked : Asked) (number : ℕ) (left : WordLines) (r : Reading)
     → Reads n asked number left r → length r.lines.items + 1 ≤ number
 few-lines n asked number left r reads = omega (
@@ -262,12 +245,7 @@ few-lines n asked number left r reads = omega (
 
 pub trace-err : (f : TraceFault) (r : Rules) (order : List ℕ) (read : Answer)
     → Gives (Err f) read → GivesInput (Err f) (asked_by r order read)
-trace-err (fault.Syntax number) r order read e = ap (asked_by r order) e
-trace-err (fault.BadScheduler number) r order read e = ap (asked_by r order) e
-trace-err (fault.NameReused number) r order read e = ap (asked_by r order) e
-trace-err (fault.NotHeld number) r order read e = ap (asked_by r order) e
-trace-err (fault.NotAddressed number) r order read e = ap (asked_by r order) e
-trace-err (fault.TooMany number) r order read e = ap (asked_by r order) e
+trace-err (fault.At number reason) r order read e = ap (asked_by r order) e
 trace-err fault.NoEnd r order read e = ap (asked_by r order) e
 trace-err fault.OutOfMemory r order read e = tt
 
@@ -381,11 +359,11 @@ same-err A (Some f) g fails = ap Err (one g f fails)
 -- a line's refusal by the reader's tests
 module _ (n number : ℕ) (stage : Stage) (l : RecordedLine) (stands : Bool)
     (stands-is : stands ≡ may_stand stage l) where
-  pub syntax-refused : stands ≡ false → refusal n number stage l ≡ Some (fault.Syntax number)
+  pub syntax-refused : stands ≡ false → refusal n number stage l ≡ Some (fault.At number Syntax)
   syntax-refused not = rw (sym stands-is ∙ not) refl
 
   module _ (bad : Bool) (bad-is : bad ≡ is_bad n l) (is : stands ≡ true) where
-    pub bad-refused : bad ≡ true → refusal n number stage l ≡ Some (fault.BadScheduler number)
+    pub bad-refused : bad ≡ true → refusal n number stage l ≡ Some (fault.At number BadScheduler)
     bad-refused not = rw (sym stands-is ∙ is, sym bad-is ∙ not) refl
 
     pub none-refused : bad ≡ false → refusal n number stage l ≡ None

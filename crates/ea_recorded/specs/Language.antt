@@ -10,12 +10,14 @@ use Rattle.std.specs.Option.{option_map_or}
 use Rattle.ea_model.specs.declared.settings.Letter.{Letter}
 use Rattle.ea_model.specs.declared.settings.Rules.{Rules}
 use Rattle.ea_model.specs.declared.settings.TheConstants.{NO_RULES}
+use Rattle.ea_model.specs.Trace.{gives_outside, is_outside}
 use Rattle.ea_model.specs.declared.trace.Trace.{Trace}
-use Rattle.ea_trace.specs.Language.{Answer, LineWords, WordLines, gives_outside, is_outside}
+use Rattle.ea_trace.specs.Language.{Answer, LineWords, WordLines}
 use Rattle.ea_trace.specs.Language.{lines_of, trace_of}
 use Rattle.ea_trace.specs.Lines.{Said, line_of_words, scheduler_in, type_line}
 use Rattle.ea_trace.specs.declared.fault.TraceFault.{TraceFault}
 use Rattle.ea_trace.specs.declared.fault.TraceFault.TheVariants as fault
+use Rattle.ea_trace.specs.declared.fault.Reason.TheVariants.{Syntax, BadScheduler}
 use Rattle.ea_trace.specs.declared.lines.Line.TheVariants as said
 use Rattle.ea_recorded.specs.declared.lines.OwnLine.{OwnLine}
 use Rattle.ea_recorded.specs.declared.lines.RecordedLine.{RecordedLine}
@@ -93,8 +95,8 @@ next stage other = stage
 -- why the line with this number is refused there: the first that holds
 abbrev pub refusal : ℕ → ℕ → Stage → RecordedLine → Option TraceFault
 refusal n number stage l =
-    if not (may_stand stage l) then Some (fault.Syntax number) else (
-    if is_bad n l then Some (fault.BadScheduler number) else None)
+    if not (may_stand stage l) then Some (fault.At number Syntax) else (
+    if is_bad n l then Some (fault.At number BadScheduler) else None)
 
 -- the lines of operations
 
@@ -163,12 +165,7 @@ abbrev pub number_at : List Placed → ℕ → ℕ
 number_at ls place = (slice_index_or ls (place - 1) (unplaced [])).number
 
 abbrev pub in_input : List Placed → TraceFault → TraceFault
-in_input ls (fault.Syntax place) = fault.Syntax (number_at ls place)
-in_input ls (fault.BadScheduler place) = fault.BadScheduler (number_at ls place)
-in_input ls (fault.NameReused place) = fault.NameReused (number_at ls place)
-in_input ls (fault.NotHeld place) = fault.NotHeld (number_at ls place)
-in_input ls (fault.NotAddressed place) = fault.NotAddressed (number_at ls place)
-in_input ls (fault.TooMany place) = fault.TooMany (number_at ls place)
+in_input ls (fault.At place reason) = fault.At (number_at ls place) reason
 in_input ls fault.NoEnd = fault.NoEnd
 in_input ls fault.OutOfMemory = fault.OutOfMemory
 

@@ -20,7 +20,6 @@ use Rattle.ea_recorded.specs.declared.reader.Reading.{Reading}
 pub record Reads (n : ℕ) (asked : Asked) (number : ℕ) (left : WordLines) (r : Reading) : Type 0
   where
     pub schedulers : r.schedulers ≡ n
-    pub count : r.number ≡ number
     pub told : ToldLines
     pub own : AreTold told r.lines.items
     pub theirs : All (IsScheduler n) (order_of told)
@@ -59,6 +58,6 @@ early_refusal n stage number (ws ∷ left) =
 abbrev pub early_refusal_in : List ℕ → ℕ → Option TraceFault
 early_refusal_in input n = early_refusal n at.Start 1 (lines_of input)
 
--- that of the lines that are left
-abbrev pub early_left : Reading → WordLines → Option TraceFault
-early_left r left = early_refusal r.schedulers r.stage r.number left
+-- that of the lines that are left, of which the first has this number
+abbrev pub early_left : Reading → ℕ → WordLines → Option TraceFault
+early_left r number left = early_refusal r.schedulers r.stage number left

@@ -16,9 +16,8 @@ ghost use Rattle.ea_recorded.specs.declared.lines.Stage.TheVariants.{Start};
 use crate::input::RecordedInput;
 use crate::lines::{OwnLine, RecordedLine, Stage, read_own};
 use crate::sections::trace_of_lines;
-use ea_model::words::first_line;
-use ea_model::{List, NO_RULES, OutOfMemory};
-use ea_trace::{TraceFault, gives_outside, is_nobody};
+use ea_model::{Lines, List, NO_RULES, OutOfMemory, is_nobody};
+use ea_trace::{Reason, TraceFault};
 use std::alloc::Global;
 
 /// The part after a line that stands there.
@@ -63,7 +62,7 @@ fn is_bad(schedulers: u32, line: RecordedLine) -> bool
 {
     match line {
         RecordedLine::Operation { scheduler, op } => {
-            is_nobody(schedulers, scheduler) || gives_outside(schedulers, op)
+            is_nobody(schedulers, scheduler) || op.gives_outside(schedulers)
         }
         _ => false,
     }
@@ -76,8 +75,6 @@ struct Reading {
     schedulers: u32,
     /// The part that has been reached.
     stage: Stage,
-    /// The number of the next line.
-    number: u32,
     /// The lines of operations so far.
     lines: Vec<OwnLine>,
 }
@@ -111,7 +108,7 @@ fn order_of(alloc: Global, lines: &[OwnLine]) -> Result<List<u32>, OutOfMemory>
 }
 
 impl Reading {
-    ghost use Rattle.ea_recorded.specs.Reading.{IsRead, Reads, early_left};
+    ghost use Rattle.ea_recorded.specs.Reading.{IsRead, Reads, early_left, end_refusal};
 
     /// Before the first line.
     fn new(alloc: Global, schedulers: u32) -> Reading
@@ -119,46 +116,42 @@ impl Reading {
             → asked ≡ read_after schedulers Start 1 [] left
             → Reads schedulers asked 1 left result }
         ensures early { (left : WordLines)
-            → early_left result left ≡ early_refusal schedulers Start 1 left }
+            → early_left result 1 left ≡ early_refusal schedulers Start 1 left }
     {
         Reading {
             schedulers,
             stage: Stage::Start,
-            number: 1,
             lines: Vec::new(alloc),
         }
     }
 
-    /// Takes the next line, if it isn't refused. No memory is needed to refuse a line, nor to take
+    /// Takes the line with this number, if it isn't refused. No memory is needed to refuse a line, nor to take
     /// one that isn't kept; to take a line of an operation may fail with `OutOfMemory`.
-    fn take(&mut self, text: &[u8]) -> Result<(), TraceFault>
-        requires { self.old.number + 1 < 2 ^ 32 }
-        ensures ok { OnOk result ((n number : ℕ) (asked : Asked) (left : WordLines)
+    fn take(&mut self, number: u32, text: &[u8]) -> Result<(), TraceFault>
+        ensures ok { OnOk result ((n : ℕ) (asked : Asked) (left : WordLines)
             → Reads n asked number (words text.now ∷ left) self.old
             → Reads n asked (number + 1) left self.new) }
-        ensures err { IfErr result (λ fault. (n number : ℕ) (asked : Asked) (left : WordLines)
+        ensures err { IfErr result (λ fault. (n : ℕ) (asked : Asked) (left : WordLines)
             → Reads n asked number (words text.now ∷ left) self.old
             → GivesInput (Err fault) asked) }
         ensures sure { IfSome
-            (refusal self.old.schedulers self.old.number self.old.stage (line_of (words text.now)))
+            (refusal self.old.schedulers number self.old.stage (line_of (words text.now)))
             (λ f. result ≡ Err f) }
         ensures goes { OnOk result ((left : WordLines)
-            → IfSome (early_left self.old (words text.now ∷ left))
-            (λ f. early_left self.new left ≡ Some f)) }
+            → IfSome (early_left self.old number (words text.now ∷ left))
+            (λ f. early_left self.new (number + 1) left ≡ Some f)) }
         ensures early { OnErr result ((left : WordLines)
-            → IfSome (early_left self.old (words text.now ∷ left)) (λ f. result ≡ Err f)) }
+            → IfSome (early_left self.old number (words text.now ∷ left)) (λ f. result ≡ Err f)) }
     {
-        let number = self.number;
         let line = read_own(text);
         if !may_stand(self.stage, line) {
-            return Err(TraceFault::Syntax { line: number });
+            return Err(TraceFault::At(number, Reason::Syntax));
         }
         if is_bad(self.schedulers, line) {
-            return Err(TraceFault::BadScheduler { line: number });
+            return Err(TraceFault::At(number, Reason::BadScheduler));
         }
         add(&mut self.lines, number, line)?;
         self.stage = next(self.stage, line);
-        self.number += 1;
         Ok(())
     }
 
@@ -173,7 +166,7 @@ impl Reading {
         ensures unstopped { IfOk result (λ i. i.trace.stops.items ≡ []) }
         ensures texts { IfOk result (λ i. length i.trace.texts.items ≡ self.schedulers) }
         ensures order { IfOk result (λ i. All (IsScheduler self.schedulers) i.order.items) }
-        ensures early { IfSome (early_left self []) (λ f. result ≡ Err f) }
+        ensures early { IfSome (end_refusal self.stage) (λ f. result ≡ Err f) }
     {
         let Stage::Ended { letter, rules } = self.stage else {
             return Err(TraceFault::NoEnd);
@@ -209,11 +202,9 @@ pub fn read_recorded(
     ensures early { IfSome (early_refusal_in bytes.now schedulers) (λ f. result ≡ Err f) }
 {
     let mut reading = Reading::new(alloc, schedulers);
-    let mut rest = Some(bytes);
-    while let Some(text) = rest {
-        let (line, after) = first_line(text);
-        reading.take(line)?;
-        rest = after;
+    let mut lines = Lines::new(bytes);
+    while let Some((number, line)) = lines.next() {
+        reading.take(number, line)?;
     }
     reading.finish(alloc)
 }

@@ -36,26 +36,8 @@ fn in_input(numbers: &[u32], fault: TraceFault) -> TraceFault
         → result ≡ language.in_input ls fault }
 {
     match fault {
-        TraceFault::Syntax { line } => TraceFault::Syntax {
-            line: number_at(numbers, line),
-        },
-        TraceFault::BadScheduler { line } => TraceFault::BadScheduler {
-            line: number_at(numbers, line),
-        },
-        TraceFault::NameReused { line } => TraceFault::NameReused {
-            line: number_at(numbers, line),
-        },
-        TraceFault::NotHeld { line } => TraceFault::NotHeld {
-            line: number_at(numbers, line),
-        },
-        TraceFault::NotAddressed { line } => TraceFault::NotAddressed {
-            line: number_at(numbers, line),
-        },
-        TraceFault::TooMany { line } => TraceFault::TooMany {
-            line: number_at(numbers, line),
-        },
-        TraceFault::NoEnd => TraceFault::NoEnd,
-        TraceFault::OutOfMemory => TraceFault::OutOfMemory,
+        TraceFault::At(place, reason) => TraceFault::At(number_at(numbers, place), reason),
+        TraceFault::NoEnd | TraceFault::OutOfMemory => fault,
     }
 }
 

@@ -8,7 +8,7 @@ use Rattle.ea_model.specs.declared.operations.Op.{Op}
 use Rattle.ea_model.specs.declared.operations.Op.TheVariants as op
 use Rattle.ea_model.specs.Instance.{Instance}
 use Rattle.ea_model.specs.Settings.{IsValidConfig}
-use Rattle.ea_model.specs.Trace.{IsOperation, IsScheduler, IsValidTrace, greatest_in}
+use Rattle.ea_model.specs.Trace.{IsOperation, IsScheduler, IsValidTrace, greatest_in, name_brought}
 use Rattle.ea_model.proofs.Rising.{item_at-key}
 use Rattle.ea_machine.specs.declared.nodes.Named.{Named}
 use Rattle.ea_machine.specs.declared.nodes.Node.{Node}
@@ -28,7 +28,7 @@ use Rattle.ea_sound.proofs.HeldBlocks.{walk-alloc, walk-block, walk-realloc}
 use Rattle.ea_sound.proofs.SoundRanges.{number-scheduler}
 use Rattle.ea_sched.specs.declared.state.Scheduler.{Scheduler}
 use Rattle.ea_sched.specs.Acting.{actor_of, setup_for}
-use Rattle.ea_sched.specs.Brought.{HavePlaces, is_placed, name_brought}
+use Rattle.ea_sched.specs.Brought.{HavePlaces, is_placed}
 use Rattle.ea_sched.specs.Asking.{HasName, IsFresh, IsHere, Lies, Suits, SuitsNext}
 
 -- the name that the next operation of a scheduler brings has a place

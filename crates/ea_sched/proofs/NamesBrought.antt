@@ -4,9 +4,10 @@ use Rattle.std.proofs.Common.{length, slice_index_or, ap, ◌∙◌, refl, subst
 use Rattle.std.specs.List.{AllWithin}
 use Rattle.std.proofs.lemmas.Bool.{cases_lt}
 use Rattle.std.proofs.lemmas.List.{get_or_default}
+use Rattle.ea_model.specs.Trace.{name_brought}
 use Rattle.ea_model.specs.declared.operations.Op.{Op}
 use Rattle.ea_names.specs.Holding.{has_place}
-use Rattle.ea_sched.specs.Brought.{is_placed, name_brought}
+use Rattle.ea_sched.specs.Brought.{is_placed}
 
 abbrev IsPlaced : List Bool → Op → Type 0
 IsPlaced places o = is_placed places (name_brought o) ≡ true

@@ -1,23 +1,11 @@
 //! The names that a text may bring to its scheduler, and the table for them.
 ghost use Rattle.std.specs.Prelude.{◌≡◌, ◌≤◌, [], All, IfOk};
 ghost use Rattle.ea_model.specs.Trace.{greatest_in};
-ghost use Rattle.ea_sched.specs.Brought as brought;
 ghost use Rattle.ea_sched.specs.Brought.{HavePlaces};
 
 use ea_model::{Op, OutOfMemory};
 use ea_names::Names;
 use std::alloc::Global;
-
-/// The name that the operation brings to its scheduler, if it brings one.
-fn name_brought(op: Op) -> Option<u32>
-    ensures { result ≡ brought.name_brought op }
-{
-    match op {
-        Op::Alloc { name, .. } | Op::Take { name, .. } => Some(name),
-        Op::Realloc { fresh, .. } => Some(fresh),
-        Op::Free { .. } | Op::Give { .. } | Op::Info | Op::Idle => None,
-    }
-}
 
 /// No names, with a place for each that the operations of the text bring.
 pub fn names_for(alloc: Global, text: &[Op], greatest: u32) -> Result<Names, OutOfMemory>
@@ -28,7 +16,7 @@ pub fn names_for(alloc: Global, text: &[Op], greatest: u32) -> Result<Names, Out
 {
     let mut names = Names::new(alloc, greatest)?;
     for op in text {
-        if let Some(name) = name_brought(*op) {
+        if let Some(name) = op.name_brought() {
             names.make_place(alloc, name)?;
         }
     }

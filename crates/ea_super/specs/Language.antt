@@ -12,6 +12,8 @@ use Rattle.ea_segments.specs.declared.calls.Request.TheVariants.{Back, Take}
 use Rattle.ea_trace.specs.Language.{WordLines, lines_of}
 use Rattle.ea_trace.specs.declared.fault.TraceFault.{TraceFault}
 use Rattle.ea_trace.specs.declared.fault.TraceFault.TheVariants as fault
+use Rattle.ea_trace.specs.declared.fault.Reason.TheVariants.{Syntax, BadScheduler}
+use Rattle.ea_trace.specs.declared.fault.Reason.TheVariants.{NameReused, NotHeld, TooMany}
 use Rattle.ea_super.specs.Lines.{line_of_words}
 use Rattle.ea_super.specs.declared.lines.Line.{Line}
 use Rattle.ea_super.specs.declared.lines.Line.TheVariants.{Asks, End, Section, Skipped, Super}
@@ -100,11 +102,11 @@ is_not_held earlier line = false
 abbrev pub refusal_at : ℕ → ℕ → List Line → Line → Option TraceFault
 refusal_at number n earlier line =
     if not (may_stand (stage_after earlier) (sections earlier) line)
-    then Some (fault.Syntax number) else (
-    if is_bad_scheduler n (sections earlier) line then Some (fault.BadScheduler number) else (
-    if is_many earlier line then Some (fault.TooMany number) else (
-    if is_reused earlier line then Some (fault.NameReused number) else (
-    if is_not_held earlier line then Some (fault.NotHeld number) else None))))
+    then Some (fault.At number Syntax) else (
+    if is_bad_scheduler n (sections earlier) line then Some (fault.At number BadScheduler) else (
+    if is_many earlier line then Some (fault.At number TooMany) else (
+    if is_reused earlier line then Some (fault.At number NameReused) else (
+    if is_not_held earlier line then Some (fault.At number NotHeld) else None))))
 
 abbrev pub refusal : ℕ → List Line → Line → Option TraceFault
 refusal n earlier line = refusal_at (length earlier + 1) n earlier line

@@ -15,7 +15,7 @@ use crate::stages::Stage;
 use crate::takers::Takers;
 use ea_model::{List, OutOfMemory};
 use ea_segments::Request;
-use ea_trace::TraceFault;
+use ea_trace::{Reason, TraceFault};
 use std::alloc::Global;
 use std::mem;
 
@@ -103,19 +103,19 @@ impl Seen {
         ensures free { is_kept line ≡ false → IfErr result (λ f. f ≢ fault.OutOfMemory) }
     {
         if !self.admits(line) {
-            return Err(TraceFault::Syntax { line: number });
+            return Err(TraceFault::At(number, Reason::Syntax));
         }
         if self.is_bad(line) {
-            return Err(TraceFault::BadScheduler { line: number });
+            return Err(TraceFault::At(number, Reason::BadScheduler));
         }
         if self.is_full(line) {
-            return Err(TraceFault::TooMany { line: number });
+            return Err(TraceFault::At(number, Reason::TooMany));
         }
         if self.reuses(line) {
-            return Err(TraceFault::NameReused { line: number });
+            return Err(TraceFault::At(number, Reason::NameReused));
         }
         if self.lacks(line) {
-            return Err(TraceFault::NotHeld { line: number });
+            return Err(TraceFault::At(number, Reason::NotHeld));
         }
         Ok(self.add(alloc, line)?)
     }

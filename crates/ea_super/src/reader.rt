@@ -7,8 +7,7 @@ ghost use Rattle.ea_super.specs.Reading.{Gives, early_refusal_in};
 
 use crate::lines::read_line;
 use crate::seen::Seen;
-use ea_model::List;
-use ea_model::words::first_line;
+use ea_model::{Lines, List};
 use ea_segments::Request;
 use ea_trace::TraceFault;
 use std::alloc::Global;
@@ -32,13 +31,9 @@ pub fn read_sections(
     ensures early { IfSome (early_refusal_in bytes.now schedulers) (λ f. result ≡ Err f) }
 {
     let mut seen = Seen::new(alloc, schedulers);
-    let mut number = 0u32;
-    let mut rest = Some(bytes);
-    while let Some(text) = rest {
-        let (line, after) = first_line(text);
-        number += 1;
+    let mut lines = Lines::new(bytes);
+    while let Some((number, line)) = lines.next() {
         seen.take(alloc, number, read_line(line))?;
-        rest = after;
     }
     seen.finish()
 }

@@ -10,8 +10,8 @@ use Rattle.std.proofs.lemmas.List.Elements.{All-append, All-cons, All-from_recur
 use Rattle.std.proofs.lemmas.List.Elements.{recursion_from_All}
 use Rattle.std.proofs.lemmas.List.Sums.{sum_by-append, sum_by-cons}
 use Rattle.ea_model.proofs.Splits.{or_false}
-use Rattle.ea_model.specs.Trace.{BringsBefore, IsOperation, IsTurns, brings, gives, makes, needs}
-use Rattle.ea_model.specs.Trace.{text_at, tries_of}
+use Rattle.ea_model.specs.Trace.{BringsBefore, IsOperation, IsTurns, brings, gives, gives_outside}
+use Rattle.ea_model.specs.Trace.{is_outside, makes, needs, text_at, tries_of}
 use Rattle.ea_model.specs.declared.operations.Op.{Op}
 use Rattle.ea_model.specs.declared.operations.Op.TheVariants.{Alloc, Free, Realloc, Give, Take}
 use Rattle.ea_model.specs.declared.operations.Op.TheVariants.{Info, Idle}
@@ -21,8 +21,8 @@ use Rattle.ea_model.specs.declared.trace.Mode.TheVariants as mode
 use Rattle.ea_model.specs.declared.trace.Stop.{Stop}
 use Rattle.ea_model.specs.declared.trace.Turns as model
 use Rattle.ea_model.specs.declared.units.TheConstants.{MAX_ALL_TRIES, MAX_OPS, MAX_SEED, MAX_TURNS}
-use Rattle.ea_trace.specs.Language.{Earlier, all_turns, and_last, gives_outside, is_bad_scheduler}
-use Rattle.ea_trace.specs.Language.{is_given, is_held, is_made, is_many, is_not_held, is_outside}
+use Rattle.ea_trace.specs.Language.{Earlier, all_turns, and_last, is_bad_scheduler}
+use Rattle.ea_trace.specs.Language.{is_given, is_held, is_made, is_many, is_not_held}
 use Rattle.ea_trace.specs.Language.{is_reused, lacks, may_stand, mode_after, operations, refusal}
 use Rattle.ea_trace.specs.Language.{reuses, section_operations, sections, stage_after, texts_after}
 use Rattle.ea_trace.specs.Language.{no_stops, stops_after, texts_before, turns_after}

@@ -21,6 +21,7 @@ use Rattle.ea_trace.specs.Says.{said, said_turns}
 use Rattle.ea_trace.specs.TurnLines.{Adds}
 use Rattle.ea_trace.specs.declared.fault.TraceFault.{TraceFault}
 use Rattle.ea_trace.specs.declared.fault.TraceFault.TheVariants as fault
+use Rattle.ea_trace.specs.declared.fault.Reason.TheVariants.{NotHeld}
 use Rattle.ea_trace.specs.declared.lines.Line.{Line}
 use Rattle.ea_trace.specs.declared.lines.Line.TheVariants as says
 use Rattle.ea_trace.specs.declared.stages.Stage.{Stage}
@@ -42,7 +43,7 @@ pub lacking : (n : ℕ) (earlier : Earlier) (line : Said) (number : ℕ)
     → is_bad_scheduler n (sections earlier) (stops_after earlier) line ≡ false
     → is_many n earlier line ≡ false → is_reused earlier line ≡ false
     → is_not_held earlier line ≡ true → length earlier + 1 ≡ number
-    → Some (fault.NotHeld number) ≡ refusal n earlier line
+    → Some (fault.At number NotHeld) ≡ refusal n earlier line
 lacking n earlier line number a b c d e same = rw (a, b, c, d, e, same) refl
 
 -- only an operation makes a name or needs one

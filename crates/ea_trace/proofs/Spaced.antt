@@ -204,7 +204,7 @@ an_operation kind.Idle ws = refl
 
 -- the name of an operation before its operands
 pub named : (k : OpKind) (op : Op) (whole text rest : List ℕ) → whole ≡ kind_word k ++ 32 ∷ text
-    → Operands k op text rest → FirstSays (Operation op) whole (lines_of rest)
+    → Operands k op text rest → FirstSays (Operation op) (lines_of whole) (lines_of rest)
 named k op whole text rest e o = record {
   words = kind_word k ∷ o.words;
   says = sym (an_operation k o.words ∙ rw o.reads refl);

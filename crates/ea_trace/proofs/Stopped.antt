@@ -5,9 +5,9 @@ use Rattle.std.specs.List.{All, count_by, list_any}
 use Rattle.std.proofs.lemmas.Bool.{cases_Bool}
 use Rattle.std.proofs.lemmas.List.Elements.{All-nil, All-push}
 use Rattle.std.proofs.lemmas.List.Sums.{sum_by-append, sum_by-cons}
-use Rattle.ea_model.specs.Trace.{IsScheduler, IsStop}
+use Rattle.ea_model.specs.Trace.{IsScheduler, IsStop, is_outside}
 use Rattle.ea_model.specs.declared.trace.Stop.{Stop}
-use Rattle.ea_trace.specs.Language.{Earlier, is_outside, is_stopped, sections, stops_after}
+use Rattle.ea_trace.specs.Language.{Earlier, is_stopped, sections, stops_after}
 use Rattle.ea_trace.specs.Language.{stops_badly}
 use Rattle.ea_trace.specs.declared.lines.Line.TheVariants.{Skipped, Letter, Section, Operation}
 use Rattle.ea_trace.specs.declared.lines.Line.TheVariants.{Threads, Schedule, Turns, Generate, End}

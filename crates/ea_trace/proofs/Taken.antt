@@ -64,12 +64,7 @@ decided n before words r s line (Some f) t e j a = λ later. moved n before word
 
 -- the answer of an error that is given
 pub gives_err : (f : TraceFault) (read : Answer) → read ≡ Err f → Gives (Err f) read
-gives_err (fault.Syntax line) read e = e
-gives_err (fault.BadScheduler line) read e = e
-gives_err (fault.NameReused line) read e = e
-gives_err (fault.NotHeld line) read e = e
-gives_err (fault.NotAddressed line) read e = e
-gives_err (fault.TooMany line) read e = e
+gives_err (fault.At line reason) read e = e
 gives_err fault.NoEnd read e = e
 gives_err fault.OutOfMemory read e = tt
 

@@ -32,8 +32,8 @@ pub record Operands (kind : OpKind) (op : Op) (text rest : List ℕ) : Type 0 wh
   pub reads : operation_of words kind ≡ Some op
   pub lines : lines_of text ≡ words ∷ lines_of rest
 
--- the first line of a text says this, and these lines come after it
-pub record FirstSays (line : Said) (text : List ℕ) (later : WordLines) : Type 0 where
+-- the first of these lines says this, and the later ones come after it
+pub record FirstSays (line : Said) (all later : WordLines) : Type 0 where
   pub words : LineWords
   pub says : line ≡ line_of_words words
-  pub lines : lines_of text ≡ words ∷ later
+  pub lines : all ≡ words ∷ later

@@ -3,12 +3,12 @@ use Rattle.std.specs.Prelude.{◌≡◌, ℕ, ◌+◌, ◌<◌, ◌≤◌, Bool,
 use Rattle.std.specs.Prelude.{◌∷◌, Option, Some, None, is_some, length, map, option_map, reverse}
 use Rattle.std.specs.Prelude.{sum_by}
 use Rattle.std.specs.Borrow.{Bor}
-use Rattle.ea_model.specs.Trace.{greatest_of, plain_mode, tries_of}
+use Rattle.ea_model.specs.Trace.{gives_outside, greatest_of, plain_mode, tries_of}
 use Rattle.ea_model.specs.declared.operations.Op.{Op}
 use Rattle.ea_model.specs.declared.operations.Op.TheVariants.{Give}
 use Rattle.ea_model.specs.Words.{words}
 use Rattle.ea_model.specs.declared.units.TheConstants.{MAX_ALL_TRIES, MAX_NAME, MAX_OPS, MAX_TURNS}
-use Rattle.ea_trace.specs.Language.{all_turns, gives_outside, is_given, is_given_to, is_held}
+use Rattle.ea_trace.specs.Language.{all_turns, is_given, is_given_to, is_held}
 use Rattle.ea_trace.specs.Language.{is_made, letter_after, mode_after, operations, refusal}
 use Rattle.ea_trace.specs.Language.{section_operations, sections, stage_after, stops_after}
 use Rattle.ea_trace.specs.Language.{takes_in}

@@ -10,8 +10,8 @@ use Rattle.std.specs.Prelude.{◌≡◌, ℕ, ◌+◌, ◌*◌, Bool, true, fals
 use Rattle.std.specs.Prelude.{nat_lt, ◌==◌, List, [], ◌∷◌, ◌++◌, Option, Some, None, Result, Ok}
 use Rattle.std.specs.Prelude.{Err, find, length, map, reverse, sum_by}
 use Rattle.std.specs.List.{list_any}
-use Rattle.ea_model.specs.Trace.{brings, gives, gives_to, greatest_of, listed, makes, plain}
-use Rattle.ea_model.specs.Trace.{tries_of}
+use Rattle.ea_model.specs.Trace.{brings, gives, gives_outside, gives_to, greatest_of, is_outside}
+use Rattle.ea_model.specs.Trace.{listed, makes, plain, tries_of}
 use Rattle.ea_model.specs.Words.{lines, words}
 use Rattle.ea_model.specs.declared.operations.Op.{Op}
 use Rattle.ea_model.specs.declared.operations.Op.TheVariants.{Alloc, Free, Realloc, Give, Take}
@@ -25,6 +25,8 @@ use Rattle.ea_model.specs.declared.units.TheConstants.{MAX_ALL_TRIES, MAX_OPS, M
 use Rattle.ea_trace.specs.Lines.{Said, line_of_words}
 use Rattle.ea_trace.specs.declared.fault.TraceFault.{TraceFault}
 use Rattle.ea_trace.specs.declared.fault.TraceFault.TheVariants as fault
+use Rattle.ea_trace.specs.declared.fault.Reason.TheVariants.{Syntax, BadScheduler, NameReused}
+use Rattle.ea_trace.specs.declared.fault.Reason.TheVariants.{NotHeld, NotAddressed, TooMany}
 use Rattle.ea_trace.specs.declared.lines.Line.TheVariants.{Skipped, Letter, Section, Operation}
 use Rattle.ea_trace.specs.declared.lines.Line.TheVariants.{Stop, Threads, Schedule, Turns}
 use Rattle.ea_trace.specs.declared.lines.Line.TheVariants.{Generate, End}
@@ -89,15 +91,6 @@ abbrev pub turns_after : List Said → List model.Turns
 turns_after [] = []
 turns_after (Turns turns ∷ older) = turns_after older ++ turns
 turns_after (line ∷ older) = turns_after older
-
--- the number of no scheduler of n
-abbrev pub is_outside : ℕ → ℕ → Bool
-is_outside n k = (k == 0) || nat_lt n k
-
--- whether an operation gives to no scheduler of n
-abbrev pub gives_outside : ℕ → Op → Bool
-gives_outside n (Give name to) = is_outside n to
-gives_outside n op = false
 
 -- a stop of a scheduler that isn't there or has one of these stops, or before the last section
 abbrev pub stops_badly : ℕ → ℕ → List stops.Stop → stops.Stop → Bool
@@ -194,12 +187,12 @@ is_not_held earlier line = false
 abbrev pub refusal_at : ℕ → ℕ → List Said → Said → Option TraceFault
 refusal_at number n earlier line =
     if not (may_stand n (stage_after earlier) (sections earlier) (stops_after earlier) line)
-    then Some (fault.Syntax number) else (
+    then Some (fault.At number Syntax) else (
     if is_bad_scheduler n (sections earlier) (stops_after earlier) line then Some
-    (fault.BadScheduler number) else (
-    if is_many n earlier line then Some (fault.TooMany number) else (
-    if is_reused earlier line then Some (fault.NameReused number) else (
-    if is_not_held earlier line then Some (fault.NotHeld number) else None))))
+    (fault.At number BadScheduler) else (
+    if is_many n earlier line then Some (fault.At number TooMany) else (
+    if is_reused earlier line then Some (fault.At number NameReused) else (
+    if is_not_held earlier line then Some (fault.At number NotHeld) else None))))
 
 abbrev pub refusal : ℕ → List Said → Said → Option TraceFault
 refusal n earlier line = refusal_at (length earlier + 1) n earlier line
@@ -267,7 +260,7 @@ Answer = Result Trace TraceFault
 -- the first line that takes what nobody gives to its scheduler is refused
 abbrev pub addressed_or : Option TakeLine → Trace → Answer
 addressed_or None t = Ok t
-addressed_or (Some take) t = Err (fault.NotAddressed take.line)
+addressed_or (Some take) t = Err (fault.At take.line NotAddressed)
 
 -- what the lines give at the end of the text
 abbrev pub at_end : Stage → Option settings.Letter → Option Mode → List Said → Answer

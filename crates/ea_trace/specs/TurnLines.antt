@@ -5,7 +5,8 @@ use Rattle.std.specs.Borrow.{Bor}
 use Rattle.std.specs.List.{list_any}
 use Rattle.ea_model.specs.Words.{words}
 use Rattle.ea_model.specs.declared.trace.Turns as model
-use Rattle.ea_trace.specs.Language.{all_turns, is_outside}
+use Rattle.ea_model.specs.Trace.{is_outside}
+use Rattle.ea_trace.specs.Language.{all_turns}
 use Rattle.ea_trace.specs.Lines.{Said, turns_in}
 use Rattle.ea_trace.specs.declared.lines.Line.{Line}
 use Rattle.ea_trace.specs.declared.lines.Line.TheVariants.{Turns, Unreadable}

@@ -87,8 +87,7 @@ fn operands(kind: OpKind, text: &[u8]) -> Option<(Op, &[u8])>
 /// line says no operation, or is written otherwise.
 pub fn first_operation(text: &[u8]) -> Option<(Op, &[u8])>
     ensures says { IfSome result
-        (λ f. FirstSays (Operation f.0) text.now (lines_of f.1.now)) }
-    ensures shorter { IfSome result (λ f. length f.1.now < length text.now) }
+        (λ f. FirstSays (Operation f.0) (lines_of text.now) (lines_of f.1.now)) }
 {
     let (kind, rest) = kind_before(text)?;
     operands(kind, rest)

@@ -6,24 +6,31 @@ ghost use Rattle.ea_trace.specs.declared.fault.TraceFault.TheVariants as fault;
 use ea_model::OutOfMemory;
 use std::alloc::AllocError;
 
-/// Why a text is no trace. Lines count from 1. The first refused line decides; of one line the
-/// first of `Syntax`, `BadScheduler`, `TooMany`, `NameReused` and `NotHeld` that holds.
+/// Why a line is refused: the first of `Syntax`, `BadScheduler`, `TooMany`, `NameReused` and
+/// `NotHeld` that holds.
 #[derive(Debug, Clone, Copy, PartialEq, Eq)]
-pub enum TraceFault {
+pub enum Reason {
     /// The line isn't one that may stand there, or is malformed, or a number that isn't a
     /// scheduler's is out of its range.
-    Syntax { line: u32 },
+    Syntax,
     /// The line begins another section than the next due, names a scheduler that isn't there, or
     /// ends the sections too early.
-    BadScheduler { line: u32 },
+    BadScheduler,
     /// The line makes a name that an earlier line made, or gives a name that an earlier line gave.
-    NameReused { line: u32 },
+    NameReused,
     /// The line needs a name that no earlier line of its section made or took.
-    NotHeld { line: u32 },
+    NotHeld,
     /// No line gives the name that the line takes to its scheduler.
-    NotAddressed { line: u32 },
+    NotAddressed,
     /// With this line the operations, the tries or the turns are more than a trace may have.
-    TooMany { line: u32 },
+    TooMany,
+}
+
+/// Why a text is no trace. The first refused line decides.
+#[derive(Debug, Clone, Copy, PartialEq, Eq)]
+pub enum TraceFault {
+    /// The line with this number, from 1, is refused.
+    At(u32, Reason),
     /// The text ends before an `end` line.
     NoEnd,
     /// There was no memory.
@@ -36,12 +43,7 @@ impl TraceFault {
         ensures { result ≡ line_of self.now }
     {
         match self {
-            TraceFault::Syntax { line }
-            | TraceFault::BadScheduler { line }
-            | TraceFault::NameReused { line }
-            | TraceFault::NotHeld { line }
-            | TraceFault::NotAddressed { line }
-            | TraceFault::TooMany { line } => Some(*line),
+            TraceFault::At(line, _) => Some(*line),
             TraceFault::NoEnd | TraceFault::OutOfMemory => None,
         }
     }
@@ -51,12 +53,12 @@ impl TraceFault {
         ensures { result.now ≡ message_of self.now }
     {
         match self {
-            TraceFault::Syntax { .. } => "syntax",
-            TraceFault::BadScheduler { .. } => "bad scheduler",
-            TraceFault::NameReused { .. } => "name reused",
-            TraceFault::NotHeld { .. } => "name not held",
-            TraceFault::NotAddressed { .. } => "name not addressed",
-            TraceFault::TooMany { .. } => "too many",
+            TraceFault::At(_, Reason::Syntax) => "syntax",
+            TraceFault::At(_, Reason::BadScheduler) => "bad scheduler",
+            TraceFault::At(_, Reason::NameReused) => "name reused",
+            TraceFault::At(_, Reason::NotHeld) => "name not held",
+            TraceFault::At(_, Reason::NotAddressed) => "name not addressed",
+            TraceFault::At(_, Reason::TooMany) => "too many",
             TraceFault::NoEnd => "no end line",
             TraceFault::OutOfMemory => OutOfMemory.message(),
         }

@@ -13,8 +13,7 @@ ghost use Rattle.ea_trace.specs.Says.{said};
 ghost use Rattle.ea_trace.specs.TurnLines.{tally_in};
 ghost use Rattle.ea_trace.specs.declared.lines.Line.TheVariants.{Operation};
 
-use crate::fault::TraceFault;
-use crate::judging::gives_outside;
+use crate::fault::{Reason, TraceFault};
 use crate::lines::Line;
 use crate::names::Names;
 use crate::seen::Seen;
@@ -106,13 +105,13 @@ impl Seen {
             return self.take_operation(number, op);
         }
         if !self.admits(line, tally) {
-            return Ok(Some(TraceFault::Syntax { line: number }));
+            return Ok(Some(TraceFault::At(number, Reason::Syntax)));
         }
         if self.is_bad(line, tally) {
-            return Ok(Some(TraceFault::BadScheduler { line: number }));
+            return Ok(Some(TraceFault::At(number, Reason::BadScheduler)));
         }
         if self.is_full(line, tally) {
-            return Ok(Some(TraceFault::TooMany { line: number }));
+            return Ok(Some(TraceFault::At(number, Reason::TooMany)));
         }
         self.add(alloc, number, line, tally)?;
         Ok(None)
@@ -126,19 +125,19 @@ impl Seen {
             → Judged n earlier (Operation op) self.new refused) }
     {
         if !self.admits_operation(op) {
-            return Ok(Some(TraceFault::Syntax { line: number }));
+            return Ok(Some(TraceFault::At(number, Reason::Syntax)));
         }
-        if gives_outside(self.schedulers, op) {
-            return Ok(Some(TraceFault::BadScheduler { line: number }));
+        if op.gives_outside(self.schedulers) {
+            return Ok(Some(TraceFault::At(number, Reason::BadScheduler)));
         }
         if self.is_full_for(op) {
-            return Ok(Some(TraceFault::TooMany { line: number }));
+            return Ok(Some(TraceFault::At(number, Reason::TooMany)));
         }
         if self.reuses(op) {
-            return Ok(Some(TraceFault::NameReused { line: number }));
+            return Ok(Some(TraceFault::At(number, Reason::NameReused)));
         }
         if self.lacks(op) {
-            return Ok(Some(TraceFault::NotHeld { line: number }));
+            return Ok(Some(TraceFault::At(number, Reason::NotHeld)));
         }
         self.note(number, op)?;
         Ok(None)
@@ -176,7 +175,7 @@ impl Seen {
             return Err(TraceFault::NoEnd);
         };
         if let Some(take) = unaddressed {
-            return Err(TraceFault::NotAddressed { line: take.line });
+            return Err(TraceFault::At(take.line, Reason::NotAddressed));
         }
         Ok(Trace {
             letter,

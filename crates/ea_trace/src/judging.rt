@@ -1,6 +1,5 @@
 //! Whether a line may follow those that were taken.
 ghost use Rattle.std.specs.Prelude.{◌≡◌, ◌+◌, ◌<◌, ℕ, true, false, ◌&&◌, nat_lt};
-ghost use Rattle.ea_model.specs.Trace;
 ghost use Rattle.ea_trace.specs.Knows.{HasRoom, Knows, Stands};
 ghost use Rattle.ea_trace.specs.Language.{Earlier, in_opening, is_bad_scheduler, is_many};
 ghost use Rattle.ea_trace.specs.Language.{may_stand, no_stops};
@@ -14,28 +13,7 @@ use crate::lines::Line;
 use crate::seen::Seen;
 use crate::stages::Stage;
 use crate::tally::Tally;
-use crate::turns::is_nobody;
-use ea_model::{MAX_ALL_TRIES, MAX_OPS, MAX_TURNS, Op, Stop};
-
-/// The tries that an operation asks for.
-pub fn tries_of(op: Op) -> u32
-    ensures { result ≡ Trace.tries_of op }
-{
-    match op {
-        Op::Take { tries, .. } => tries,
-        _ => 0,
-    }
-}
-
-/// Whether an operation gives a name to none of the schedulers 1 to `schedulers`.
-pub fn gives_outside(schedulers: u32, op: Op) -> bool
-    ensures { result ≡ language.gives_outside schedulers op }
-{
-    match op {
-        Op::Give { to, .. } => is_nobody(schedulers, to),
-        _ => false,
-    }
-}
+use ea_model::{MAX_ALL_TRIES, MAX_OPS, MAX_TURNS, Op, Stop, is_nobody};
 
 /// Whether one of these stops is that scheduler's.
 fn is_stopped(stops: &[Stop], number: u32) -> bool
@@ -74,7 +52,7 @@ impl Seen {
             Line::Section { number } => {
                 self.section >= self.schedulers || number != self.section + 1
             }
-            Line::Operation { op } => gives_outside(self.schedulers, op),
+            Line::Operation { op } => op.gives_outside(self.schedulers),
             Line::Stop { stop } => self.stops_badly(stop.scheduler),
             Line::Threads | Line::Schedule => self.section < self.schedulers,
             Line::Turns { .. } => matches!(tally, Some(Tally { outside: true, .. })),
@@ -127,7 +105,7 @@ impl Seen {
         ensures stands { result ≡ true → Stands self.now.schedulers self.now.section (Operation op) }
     {
         matches!(self.stage, Stage::Opening)
-            && (self.is_in_section() || gives_outside(self.schedulers, op))
+            && (self.is_in_section() || op.gives_outside(self.schedulers))
     }
 
     /// Whether with this operation they, or the tries, are too many.
@@ -137,7 +115,7 @@ impl Seen {
             → result ≡ is_many n earlier (Operation op) }
         ensures room { result ≡ false → HasRoom self.now (Operation op) }
     {
-        self.count >= MAX_OPS || self.tries + tries_of(op) > MAX_ALL_TRIES
+        self.count >= MAX_OPS || self.tries + op.tries() > MAX_ALL_TRIES
     }
 
     /// Whether with this line the operations, the tries or the turns are too many.

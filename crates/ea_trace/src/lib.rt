@@ -18,9 +18,7 @@ mod tally;
 mod turns;
 pub mod words;
 
-pub use fault::TraceFault;
-pub use judging::gives_outside;
+pub use fault::{Reason, TraceFault};
 pub use keywords::{Keyword, OpKind, is_comment, keyword_at, kind_at, letter_at, letter_word};
 pub use lines::{Line, read_line};
 pub use reader::{TraceReader, read_trace};
-pub use turns::is_nobody;

@@ -1,8 +1,9 @@
 //! Notes the lines that are taken.
 ghost use Rattle.std.specs.Prelude.{◌≡◌, ◌+◌, ◌<◌, ◌≤◌, ◌∷◌, [], ℕ, false, true, All, is_some};
 ghost use Rattle.std.specs.Prelude.{length, map, option_map, OnOk};
+ghost use Rattle.ea_model.specs.Trace.{gives_outside};
 ghost use Rattle.ea_trace.specs.Knows.{HasRoom, KeepsRest, Knows, Stands, is_mark};
-ghost use Rattle.ea_trace.specs.Language.{Earlier, and_last, gives_outside, is_bad_scheduler};
+ghost use Rattle.ea_trace.specs.Language.{Earlier, and_last, is_bad_scheduler};
 ghost use Rattle.ea_trace.specs.Language.{is_reused, reuses, sections, takes_in};
 ghost use Rattle.ea_trace.specs.Ranges.{HasRanges, InRange, IsNamed};
 ghost use Rattle.ea_trace.specs.Lines.{turns_in};
@@ -12,7 +13,6 @@ ghost use Rattle.ea_model.specs.Words.{words};
 ghost use Rattle.ea_trace.specs.declared.lines.Line.TheVariants.{Operation, Section};
 ghost use Rattle.ea_trace.specs.declared.lines.Line.TheVariants as lines;
 
-use crate::judging::tries_of;
 use crate::lines::Line;
 use crate::seen::Seen;
 use crate::stages::Stage;
@@ -81,7 +81,7 @@ impl Seen {
         add_take(&mut self.takes, number, self.section, op)?;
         self.names.note(self.section, op);
         self.count += 1;
-        self.tries += tries_of(op);
+        self.tries += op.tries();
         self.greatest = self.greatest.max(op.greatest_in());
         self.text.push(op)
     }

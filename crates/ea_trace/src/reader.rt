@@ -1,13 +1,13 @@
 //! Reads a trace line by line.
 ghost use Rattle.std.specs.Prelude.{◌≡◌, ◌+◌, ◌<◌, ◌≤◌, ◌^◌, ◌++◌, ◌∷◌, [], ℕ, length};
-ghost use Rattle.std.specs.Prelude.{IfOk, IfSome, OnOk};
-ghost use Rattle.std.specs.Option.{option_map_or};
+ghost use Rattle.std.specs.Prelude.{IfOk, IfSome, None, OnOk, map};
 ghost use Rattle.ea_model.specs.Trace.{IsValidTrace};
+ghost use Rattle.ea_model.specs.Words.{words};
 ghost use Rattle.ea_model.specs.declared.units.TheConstants.{MAX_NAME, MAX_SCHEDULERS};
 ghost use Rattle.ea_trace.specs.Begins.{FirstSays};
 ghost use Rattle.ea_trace.specs.Between as between;
 ghost use Rattle.ea_trace.specs.Language.{Gives, LineWords, WordLines, is_held, section_operations};
-ghost use Rattle.ea_trace.specs.Language.{lines_of, sections, trace, trace_of};
+ghost use Rattle.ea_trace.specs.Language.{sections, trace, trace_of};
 ghost use Rattle.ea_trace.specs.Lines.{line_of_words};
 ghost use Rattle.ea_trace.specs.Ranges.{InRange};
 ghost use Rattle.ea_trace.specs.Says.{said};
@@ -19,8 +19,7 @@ use crate::lines::{Line, read_line};
 use crate::seen::Seen;
 use crate::stages::Stage;
 use crate::turns::read_turns;
-use ea_model::words::first_line;
-use ea_model::{List, OutOfMemory, Trace, Turns};
+use ea_model::{Lines, List, OutOfMemory, Trace, Turns};
 use std::alloc::{AllocError, Global};
 
 /// A reader that takes the lines of a trace one by one. The first refused line decides: after it
@@ -126,18 +125,21 @@ impl TraceReader {
     }
 }
 
-/// What the first line of a text says, and what follows its line feed.
-fn next_line(text: &[u8]) -> (Line<&[u8]>, Option<&[u8]>)
-    ensures says { FirstSays (said result.0) text.now
-        (option_map_or (λ rest. lines_of rest.now) result.1 []) }
-    ensures range { InRange (said result.0) }
-    ensures shorter { IfSome result.1 (λ rest. length rest.now < length text.now) }
+/// What the next line says; None after the last one.
+fn next_line<'a>(lines: &mut Lines<'a>) -> Option<Line<&'a [u8]>>
+    ensures says { IfSome result (λ line.
+        FirstSays (said line) (map words lines.old.left) (map words lines.new.left)) }
+    ensures range { IfSome result (λ line. InRange (said line)) }
+    ensures number { IfSome result (λ _. lines.new.number ≡ lines.old.number + 1) }
+    ensures few { lines.new.number < 2 ^ 32 }
+    ensures end { result ≡ None → lines.old.left ≡ [] }
 {
-    if let Some((op, rest)) = first_operation(text) {
-        return (Line::Operation { op }, Some(rest));
+    if let Some((op, rest)) = first_operation(lines.text()?) {
+        lines.skip_to(rest);
+        return Some(Line::Operation { op });
     }
-    let (line, rest) = first_line(text);
-    (read_line(line), rest)
+    let (_, line) = lines.next()?;
+    Some(read_line(line))
 }
 
 /// Reads a trace for schedulers 1 to `schedulers`, `MAX_SCHEDULERS` at most. The text has fewer
@@ -150,11 +152,9 @@ pub fn read_trace(alloc: Global, bytes: &[u8], schedulers: u32) -> Result<Trace,
     ensures valid { IfOk result (IsValidTrace schedulers) }
 {
     let mut reader = TraceReader::new(alloc, schedulers)?;
-    let mut rest = Some(bytes);
-    while let Some(text) = rest {
-        let (line, after) = next_line(text);
+    let mut lines = Lines::new(bytes);
+    while let Some(line) = next_line(&mut lines) {
         reader.take(alloc, line)?;
-        rest = after;
     }
     reader.finish()
 }

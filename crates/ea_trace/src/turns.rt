@@ -4,7 +4,6 @@ ghost use Rattle.std.specs.Prelude.{OnOk};
 ghost use Rattle.std.specs.List.{slice_split};
 ghost use Rattle.std.specs.Option.{option_map_or};
 ghost use Rattle.ea_model.specs.Words.{words};
-ghost use Rattle.ea_trace.specs.Language.{is_outside};
 ghost use Rattle.ea_trace.specs.Lines.{and_turns, is_star, turns_in};
 ghost use Rattle.ea_trace.specs.Says.{said};
 ghost use Rattle.ea_trace.specs.TurnLines.{Adds, HasPart, tally_in, tally_of};
@@ -14,7 +13,7 @@ use crate::lines::{Line, MAX_READ};
 use crate::tally::Tally;
 use crate::words::scheduler;
 use ea_model::words::{first_word, number};
-use ea_model::{List, MAX_TURNS, OutOfMemory, Turns};
+use ea_model::{List, MAX_TURNS, OutOfMemory, Turns, is_nobody};
 
 /// What stands before the first star of a word, and what stands after it.
 fn at_star(word: &[u8]) -> (&[u8], Option<&[u8]>)
@@ -94,13 +93,6 @@ fn add_turns(
         rest = after;
     }
     Ok(Some(Tally { count, outside }))
-}
-
-/// Whether none of the schedulers 1 to `schedulers` has that number.
-pub fn is_nobody(schedulers: u32, number: u32) -> bool
-    ensures { result ≡ is_outside schedulers number }
-{
-    number == 0 || number > schedulers
 }
 
 /// Reads the turns of a line into a list; what they are together, if it is a line of turns.

@@ -1,5 +1,5 @@
 //! Large inputs. Shorter ones are cases, and so are those at the limits of the language.
-use ea_trace::{TraceFault, read_trace};
+use ea_trace::{Reason, TraceFault, read_trace};
 use std::alloc::Global;
 use std::test::Fail;
 
@@ -28,14 +28,14 @@ fn large_inputs_are_read(rt: HostRuntime) -> Result<(), Fail> {
             b"xxxx",
             4_194_300,
             b"",
-            Some(TraceFault::Syntax { line: 1 }),
+            Some(TraceFault::At(1, Reason::Syntax)),
         ),
         (
             b"",
             b"\n",
             16_777_200,
             b"x",
-            Some(TraceFault::Syntax { line: 16_777_201 }),
+            Some(TraceFault::At(16_777_201, Reason::Syntax)),
         ),
         (
             b"type H\nscheduler 1\nschedule\n",

@@ -13,7 +13,7 @@ use Rattle.std.proofs.lemmas.List.Elements.{recursion_from_All}
 use Rattle.std.proofs.lemmas.List.Sums.{sum_by-cons}
 use Rattle.std.proofs.lemmas.Slice.Eq.{bytes_eq-Decides}
 use Rattle.ea_model.specs.Lists.{Items}
-use Rattle.ea_model.specs.Trace.{listed, plain, texts_of}
+use Rattle.ea_model.specs.Trace.{gives_outside, listed, plain, texts_of}
 use Rattle.ea_model.specs.declared.operations.Op.{Op}
 use Rattle.ea_model.specs.declared.settings.Letter.{Letter}
 use Rattle.ea_model.specs.declared.settings.Letter.TheVariants.{B}
@@ -22,7 +22,7 @@ use Rattle.ea_model.specs.declared.trace.Stop.{Stop}
 use Rattle.ea_model.specs.declared.trace.Trace.{Trace}
 use Rattle.ea_model.specs.declared.trace.Turns.{Turns}
 use Rattle.ea_trace.specs.Language.{Answer, LineWords, WordLines, addressed_or, and_last, at_end}
-use Rattle.ea_trace.specs.Language.{gives_outside, is_bad_scheduler, is_many, is_not_held}
+use Rattle.ea_trace.specs.Language.{is_bad_scheduler, is_many, is_not_held}
 use Rattle.ea_trace.specs.Language.{is_reused, is_unaddressed, letter_after, may_stand, mode_after}
 use Rattle.ea_trace.specs.Language.{next, no_stops, read_after, refusal, refused_or}
 use Rattle.ea_trace.specs.Language.{section_operations, sections, stage_after, stops_after}

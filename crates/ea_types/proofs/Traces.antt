@@ -29,12 +29,7 @@ and_more ts t (Err f) = refl
 -- the first refused type decides
 pub refused_one : (f : TraceFault) (answer : Answer) (ts : List Trace) (rest read : Answers)
     → Gives (Err f) answer → read ≡ and_traces ts (and_trace answer rest) → GivesEach (Err f) read
-refused_one (fault.Syntax line) answer ts rest read g e = e ∙ rw g refl
-refused_one (fault.BadScheduler line) answer ts rest read g e = e ∙ rw g refl
-refused_one (fault.NameReused line) answer ts rest read g e = e ∙ rw g refl
-refused_one (fault.NotHeld line) answer ts rest read g e = e ∙ rw g refl
-refused_one (fault.NotAddressed line) answer ts rest read g e = e ∙ rw g refl
-refused_one (fault.TooMany line) answer ts rest read g e = e ∙ rw g refl
+refused_one (fault.At line reason) answer ts rest read g e = e ∙ rw g refl
 refused_one fault.NoEnd answer ts rest read g e = e ∙ rw g refl
 refused_one fault.OutOfMemory answer ts rest read g e = tt
 

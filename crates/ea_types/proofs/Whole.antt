@@ -3,7 +3,6 @@ use Rattle.std.proofs.Common.{◌≡◌, ℕ, ◌+◌, ◌<◌, ◌≤◌, Bool,
 use Rattle.std.proofs.Common.{Option, Some, None, Ok, Err, if◌then◌else◌, bytes_eq, codes}
 use Rattle.std.proofs.Common.{length, map, nat_le, nat_lt, refl, sym, ap, subst, ◌∙◌, append-nil}
 use Rattle.std.proofs.Common.{arith, rules, tests}
-use Rattle.std.specs.Borrow.{Bor}
 use Rattle.std.specs.List.{All}
 use Rattle.std.specs.Option.{option_and_then, option_map_or}
 use Rattle.std.specs.Prelude.{IfSome}
@@ -15,6 +14,7 @@ use Rattle.ea_model.specs.declared.trace.Trace.{Trace}
 use Rattle.ea_trace.specs.Language.{LineWords, WordLines}
 use Rattle.ea_trace.specs.declared.fault.TraceFault.{TraceFault}
 use Rattle.ea_trace.specs.declared.fault.TraceFault.TheVariants as fault
+use Rattle.ea_trace.specs.declared.fault.Reason.TheVariants.{TooMany}
 use Rattle.ea_types.specs.Courses.{AreParts}
 use Rattle.ea_types.specs.Input.{AreGiven, AreUnstopped}
 use Rattle.ea_types.specs.Input.{AreCounted, GivesAll, HaveOneMode, HaveTexts}
@@ -32,13 +32,6 @@ use Rattle.ea_types.proofs.Modes.{AreFine, one-mode}
 use Rattle.ea_types.proofs.Plain.{all-given, all-unstopped, are-parts, count-all}
 use Rattle.ea_types.proofs.Texts.{all-texts}
 use Rattle.ea_types.proofs.Traces.{traces_same}
-
--- the rest after a line feed is shorter than what stood before it
-pub fewer-left : (rest : Option (Bor (List ℕ))) (number size all : ℕ)
-    → IfSome rest (λ r. length r.now < size) → number + size ≤ all
-    → option_map_or (λ r. number + 1 + length r.now) rest 0 ≤ all
-fewer-left None number size all h le = omega arith
-fewer-left (Some r) number size all h le = omega (arith, h, le)
 
 -- the types are few, and different
 
@@ -96,23 +89,13 @@ pub record IsFound (ls : WordLines) (number : ℕ) (l : LineWords) (after : Word
   pub letters : types_in l ≡ Some types
 
 pub err-given : (f : TraceFault) (read : Answers) → GivesEach (Err f) read → GivesAll (Err f) read
-err-given (fault.Syntax line) read h = h
-err-given (fault.BadScheduler line) read h = h
-err-given (fault.NameReused line) read h = h
-err-given (fault.NotHeld line) read h = h
-err-given (fault.NotAddressed line) read h = h
-err-given (fault.TooMany line) read h = h
+err-given (fault.At line reason) read h = h
 err-given fault.NoEnd read h = h
 err-given fault.OutOfMemory read h = tt
 
 wrong-given : (c : Config) (types : List Letter) (number : ℕ) (ls : WordLines) (wrong : Option ℕ)
     (f : TraceFault) → IsWrongAt wrong f → GivesAll (Err f) (read_rest c types number ls wrong)
-wrong-given c types number ls wrong (fault.Syntax line) h = rw h refl
-wrong-given c types number ls wrong (fault.BadScheduler line) h = absurd h
-wrong-given c types number ls wrong (fault.NameReused line) h = absurd h
-wrong-given c types number ls wrong (fault.NotHeld line) h = absurd h
-wrong-given c types number ls wrong (fault.NotAddressed line) h = absurd h
-wrong-given c types number ls wrong (fault.TooMany line) h = absurd h
+wrong-given c types number ls wrong (fault.At line reason) h = rw (h.0, h.1) refl
 wrong-given c types number ls wrong fault.NoEnd h = absurd h
 wrong-given c types number ls wrong fault.OutOfMemory h = tt
 
@@ -137,12 +120,12 @@ module _ (c : Config) (ls : WordLines) (number : ℕ) (l : LineWords) (after : W
     none : wrong_at types (number + 1) false after ≡ None
     none = sym h.wrong
 
-    fine : traces_of c ls ≡ refused_if (are_many c types) (fault.TooMany number)
+    fine : traces_of c ls ≡ refused_if (are_many c types) (fault.At number TooMany)
         (traces_by c.schedulers (λ x. projection x ls) types)
     fine = read ∙ rw none refl
 
     -- the types are too many
-    pub many-all : are_many c types ≡ true → traces_of c ls ≡ Err (fault.TooMany number)
+    pub many-all : are_many c types ≡ true → traces_of c ls ≡ Err (fault.At number TooMany)
     many-all m = fine ∙ rw m refl
 
     same : traces_by c.schedulers h.lines (letters_of r.readers.items)

@@ -16,6 +16,7 @@ use Rattle.ea_trace.specs.Lines.{is_comment, keyword_in, kind_in, letter_in, let
 use Rattle.ea_trace.specs.Lines.{type_line}
 use Rattle.ea_trace.specs.declared.fault.TraceFault.{TraceFault}
 use Rattle.ea_trace.specs.declared.fault.TraceFault.TheVariants as fault
+use Rattle.ea_trace.specs.declared.fault.Reason.TheVariants.{Syntax, TooMany}
 use Rattle.ea_types.specs.declared.input.TheConstants.{MAX_TYPES}
 use Rattle.ea_trace.specs.declared.keywords.Keyword.{Keyword}
 use Rattle.ea_trace.specs.declared.keywords.Keyword.TheVariants.{Section, Stop, Threads, Schedule}
@@ -174,13 +175,13 @@ refused_if false f read = read
 
 -- what lines give whose `types` line has this number and these types, by the first wrong one
 abbrev pub read_rest : Config → List Letter → ℕ → WordLines → Option ℕ → Answers
-read_rest c types number ls (Some wrong) = Err (fault.Syntax wrong)
-read_rest c types number ls None = refused_if (are_many c types) (fault.TooMany number)
+read_rest c types number ls (Some wrong) = Err (fault.At wrong Syntax)
+read_rest c types number ls None = refused_if (are_many c types) (fault.At number TooMany)
     (traces_by c.schedulers (λ x. projection x ls) types)
 
 -- the same by the types, where the lines after the first one are these
 abbrev pub read_first : Config → ℕ → WordLines → WordLines → Option (List Letter) → Answers
-read_first c number ls after None = Err (fault.Syntax number)
+read_first c number ls after None = Err (fault.At number Syntax)
 read_first c number ls after (Some types) = read_rest c types number ls
     (wrong_at types (number + 1) false after)
 

@@ -1,31 +1,29 @@
 -- What the reading of the lines knows.
 use Rattle.std.specs.Prelude.{◌≡◌, ℕ, ◌+◌, ◌≤◌, false, List, ◌∷◌, ◌++◌, Option, Some, None}
-use Rattle.std.specs.Prelude.{All, [], length}
-use Rattle.std.specs.Option.{option_map_or}
-use Rattle.ea_model.specs.Words.{words}
+use Rattle.std.specs.Prelude.{All, [], length, map}
+use Rattle.std.specs.Borrow.{Bor}
+use Rattle.ea_model.specs.Words.{LinesLeft, words}
 use Rattle.ea_model.specs.declared.settings.Letter.{Letter}
 use Rattle.ea_trace.specs.Language.{WordLines}
 use Rattle.ea_trace.specs.Lines.{type_line}
 use Rattle.ea_trace.specs.declared.fault.TraceFault.{TraceFault}
 use Rattle.ea_trace.specs.declared.fault.TraceFault.TheVariants as fault
-use Rattle.ea_frame.specs.Lines.{rest_lines}
+use Rattle.ea_trace.specs.declared.fault.Reason.TheVariants.{Syntax}
 use Rattle.ea_types.specs.Language.{before_first, from_first, left_on, parts_of, projection}
 use Rattle.ea_types.specs.Language.{wrong_at}
 use Rattle.ea_types.specs.Readers.{HasRead, TypeLines, letters_of}
 use Rattle.ea_types.specs.Sections.{AreParts}
-use Rattle.ea_types.specs.declared.reader.FirstLine.{FirstLine}
 use Rattle.ea_types.specs.declared.reader.Reading.{Reading}
 
--- the first of these lines that isn't skipped, of a text of that many bytes
-pub record IsFirstLine (size : ℕ) (ls : WordLines) (f : FirstLine) : Type 0 where
-  pub lines : from_first ls ≡ words f.text.now ∷ rest_lines f.rest
-  pub number : f.number ≡ length (before_first ls) + 1
-  pub few : f.number ≤ size + 1
-  pub fewer : option_map_or (λ r. f.number + length r.now) f.rest 0 ≤ size
+-- from these lines the first one that isn't skipped was taken, which has this number
+pub record IsFirstLine (old new : LinesLeft) (number : ℕ) (line : List ℕ) : Type 0 where
+  pub lines : from_first (map words old.left) ≡ words line ∷ map words new.left
+  pub number : number ≡ old.number + length (before_first (map words old.left)) + 1
+  pub before : new.number ≡ number
 
-abbrev pub IsFirst : ℕ → WordLines → Option FirstLine → Type 0
-IsFirst size ls None = from_first ls ≡ []
-IsFirst size ls (Some f) = IsFirstLine size ls f
+abbrev pub IsFirst : LinesLeft → LinesLeft → Option (ℕ × Bor (List ℕ)) → Type 0
+IsFirst old new None = from_first (map words old.left) ≡ []
+IsFirst old new (Some l) = IsFirstLine old new l.0 l.1.now
 
 -- what all lines give: the lines of each type, whose each line of each section is, and the number
 -- of the first line that is wrong by itself
@@ -62,11 +60,6 @@ pub record BeginsWith (types : List Letter) (before left : WordLines) (whole : W
 
 -- a fault is that of the line with this number, which is wrong by itself, or want of memory
 abbrev pub IsWrongAt : Option ℕ → TraceFault → Type 0
-IsWrongAt wrong (fault.Syntax line) = wrong ≡ Some line
+IsWrongAt wrong (fault.At line reason) = (wrong ≡ Some line) × (reason ≡ Syntax)
 IsWrongAt wrong fault.OutOfMemory = Unit {0}
 IsWrongAt wrong fault.NoEnd = ⊥
-IsWrongAt wrong (fault.BadScheduler line) = ⊥
-IsWrongAt wrong (fault.NameReused line) = ⊥
-IsWrongAt wrong (fault.NotHeld line) = ⊥
-IsWrongAt wrong (fault.NotAddressed line) = ⊥
-IsWrongAt wrong (fault.TooMany line) = ⊥

@@ -22,21 +22,10 @@ use crate::letters::types_in;
 use crate::sections::Sections;
 use crate::sorting::{Whose, begins_by, inside_by, sort};
 use crate::type_reader::{TypeReader, finish_each, readers_of, take_each};
-use ea_model::words::{first_line, first_word};
-use ea_model::{Config, Letter, MAX_MEGABYTES, OutOfMemory};
-use ea_trace::{Keyword, Line, TraceFault, is_comment, read_line};
+use ea_model::words::first_word;
+use ea_model::{Config, Letter, Lines, MAX_MEGABYTES, OutOfMemory};
+use ea_trace::{Keyword, Line, Reason, TraceFault, is_comment, read_line};
 use std::alloc::Global;
-
-/// The first line that isn't skipped.
-#[derive(Clone, Copy)]
-struct FirstLine<'a> {
-    /// Its number, from 1.
-    number: u32,
-    /// Its text.
-    text: &'a [u8],
-    /// What follows its line feed.
-    rest: Option<&'a [u8]>,
-}
 
 /// Whether a line is skipped.
 fn is_skipped(line: &[u8]) -> bool
@@ -48,24 +37,14 @@ fn is_skipped(line: &[u8]) -> bool
     }
 }
 
-/// The first line that isn't skipped, if there is one.
-fn first_unskipped(bytes: &[u8]) -> Option<FirstLine<'_>>
-    requires { length bytes.now + 1 < 2 ^ 32 }
-    ensures { IsFirst (length bytes.now) (lines_of bytes.now) result }
+/// The first line that isn't skipped, with its number, if there is one.
+fn first_unskipped<'a>(lines: &mut Lines<'a>) -> Option<(u32, &'a [u8])>
+    ensures { IsFirst lines.old lines.new result }
 {
-    let mut number = 0u32;
-    let mut rest = Some(bytes);
-    while let Some(text) = rest {
-        let (line, after) = first_line(text);
-        number += 1;
+    while let Some((number, line)) = lines.next() {
         if !is_skipped(line) {
-            return Some(FirstLine {
-                number,
-                text: line,
-                rest: after,
-            });
+            return Some((number, line));
         }
-        rest = after;
     }
     None
 }
@@ -179,7 +158,7 @@ impl Reading {
             → IsWrongAt whole.wrong fault) }
     {
         match sort(letters, self.inside, text) {
-            None => Err(TraceFault::Syntax { line: number }),
+            None => Err(TraceFault::At(number, Reason::Syntax)),
             Some(Whose::Common { keyword }) => {
                 Ok(self.take_common(alloc, keyword, read_line(text))?)
             }
@@ -218,24 +197,20 @@ pub fn read_types(alloc: Global, config: Config, bytes: &[u8]) -> Result<TypedIn
     ensures counts { IfOk result (λ input. AreCounted input.traces.items
         (map (λ part. part.items) input.parts.items)) }
 {
-    let Some(first) = first_unskipped(bytes) else {
+    let mut lines = Lines::new(bytes);
+    let Some((first, text)) = first_unskipped(&mut lines) else {
         return Err(TraceFault::NoEnd);
     };
-    let Some(letters) = types_in(alloc, first.text)? else {
-        return Err(TraceFault::Syntax { line: first.number });
+    let Some(letters) = types_in(alloc, text)? else {
+        return Err(TraceFault::At(first, Reason::Syntax));
     };
     let types = letters.as_slice();
-    let mut reading = Reading::new(alloc, config.schedulers, types, first.number - 1)?;
-    let mut number = first.number;
-    let mut rest = first.rest;
-    while let Some(text) = rest {
-        let (line, after) = first_line(text);
-        number += 1;
+    let mut reading = Reading::new(alloc, config.schedulers, types, first - 1)?;
+    while let Some((number, line)) = lines.next() {
         reading.take(alloc, types, number, line)?;
-        rest = after;
     }
     if are_many(config, types) {
-        return Err(TraceFault::TooMany { line: first.number });
+        return Err(TraceFault::At(first, Reason::TooMany));
     }
     let Reading {
         readers,

@@ -1,6 +1,6 @@
 //! Inputs of recorded operations, read.
 use ea_recorded::read_recorded;
-use ea_trace::TraceFault;
+use ea_trace::{Reason, TraceFault};
 use std::test::Fail;
 
 #[test]
@@ -24,27 +24,27 @@ fn an_input_is_read_or_refused_at_its_line(rt: HostRuntime) {
         (
             1,
             b"type H\n1 idle\nfrob\n",
-            Some(TraceFault::Syntax { line: 3 }),
+            Some(TraceFault::At(3, Reason::Syntax)),
         ),
         (
             3,
             b"type H\n4 idle\nend\n",
-            Some(TraceFault::BadScheduler { line: 2 }),
+            Some(TraceFault::At(2, Reason::BadScheduler)),
         ),
         (
             2,
             b"type H\n# x\n2 alloc 7 1\n1 alloc 7 1\nend\n",
-            Some(TraceFault::NameReused { line: 3 }),
+            Some(TraceFault::At(3, Reason::NameReused)),
         ),
         (
             2,
             b"type H\n2 alloc 7 1\n1 free 7\nend\n",
-            Some(TraceFault::NotHeld { line: 3 }),
+            Some(TraceFault::At(3, Reason::NotHeld)),
         ),
         (
             2,
             b"type H\n2 take 7 1\n1 idle\nend\n",
-            Some(TraceFault::NotAddressed { line: 2 }),
+            Some(TraceFault::At(2, Reason::NotAddressed)),
         ),
         (
             1,
@@ -52,7 +52,7 @@ fn an_input_is_read_or_refused_at_its_line(rt: HostRuntime) {
                 1 take 7 10000000\n1 take 7 10000000\n1 take 7 10000000\n\
                 1 take 7 10000000\n1 take 7 10000000\n1 take 7 10000000\n\
                 1 take 7 10000000\n1 take 7 1\nend\n",
-            Some(TraceFault::TooMany { line: 12 }),
+            Some(TraceFault::At(12, Reason::TooMany)),
         ),
     ];
     for (schedulers, input, wanted) in cases {

@@ -4,6 +4,8 @@ ghost use Rattle.ea_model.specs.Words.{words};
 ghost use Rattle.ea_model.specs.declared.operations.Op.TheVariants as op;
 ghost use Rattle.ea_model.specs.declared.settings.TheConstants.{NO_RULES};
 ghost use Rattle.ea_trace.specs.declared.fault.TraceFault.TheVariants as fault;
+ghost use Rattle.ea_trace.specs.declared.fault.Reason.TheVariants.{Syntax, BadScheduler, NameReused};
+ghost use Rattle.ea_trace.specs.declared.fault.Reason.TheVariants.{NotHeld, NotAddressed};
 ghost use Rattle.ea_trials_commands.specs.Recorded.{order, refused, rules, texts, turns};
 
 /// Each scheduler has its own operations, and is told of each line whose it is.
@@ -35,32 +37,32 @@ pub fn turns_of_lines()
 pub fn refused_inputs()
     ensures nothing { refused 1 (codes "") ≡ Some fault.NoEnd }
     ensures comments { refused 1 (codes "# type B\n\n") ≡ Some fault.NoEnd }
-    ensures no_type { refused 1 (codes "1 alloc 1 8\n") ≡ Some (fault.Syntax 1) }
-    ensures no_scheduler { refused 1 (codes "type B\nalloc 1 8\n") ≡ Some (fault.Syntax 2) }
-    ensures no_bytes { refused 1 (codes "type B\n1 alloc 1\n") ≡ Some (fault.Syntax 2) }
-    ensures stops { refused 1 (codes "type B\n1 stop 1 5\n") ≡ Some (fault.Syntax 2) }
-    ensures turns { refused 1 (codes "type B\n1*2\n") ≡ Some (fault.Syntax 2) }
-    ensures two_turns { refused 1 (codes "type B\n1 1\n") ≡ Some (fault.Syntax 2) }
-    ensures comment_after { refused 1 (codes "type B\n1 # x\n") ≡ Some (fault.Syntax 2) }
-    ensures section { refused 1 (codes "type B\nscheduler 1\n") ≡ Some (fault.Syntax 2) }
-    ensures two_types { refused 1 (codes "type B\ntype B\n") ≡ Some (fault.Syntax 2) }
-    ensures after_end { refused 1 (codes "type B\nend\n# x\n1 idle\n") ≡ Some (fault.Syntax 4) }
-    ensures other { refused 1 (codes "type B\n2 alloc 1 8\n") ≡ Some (fault.BadScheduler 2) }
-    ensures large { refused 1 (codes "type B\n9999999999 idle\n") ≡ Some (fault.BadScheduler 2) }
-    ensures digits { refused 1 (codes "type B\n10000000000 idle\n") ≡ Some (fault.Syntax 2) }
+    ensures no_type { refused 1 (codes "1 alloc 1 8\n") ≡ Some (fault.At 1 Syntax) }
+    ensures no_scheduler { refused 1 (codes "type B\nalloc 1 8\n") ≡ Some (fault.At 2 Syntax) }
+    ensures no_bytes { refused 1 (codes "type B\n1 alloc 1\n") ≡ Some (fault.At 2 Syntax) }
+    ensures stops { refused 1 (codes "type B\n1 stop 1 5\n") ≡ Some (fault.At 2 Syntax) }
+    ensures turns { refused 1 (codes "type B\n1*2\n") ≡ Some (fault.At 2 Syntax) }
+    ensures two_turns { refused 1 (codes "type B\n1 1\n") ≡ Some (fault.At 2 Syntax) }
+    ensures comment_after { refused 1 (codes "type B\n1 # x\n") ≡ Some (fault.At 2 Syntax) }
+    ensures section { refused 1 (codes "type B\nscheduler 1\n") ≡ Some (fault.At 2 Syntax) }
+    ensures two_types { refused 1 (codes "type B\ntype B\n") ≡ Some (fault.At 2 Syntax) }
+    ensures after_end { refused 1 (codes "type B\nend\n# x\n1 idle\n") ≡ Some (fault.At 4 Syntax) }
+    ensures other { refused 1 (codes "type B\n2 alloc 1 8\n") ≡ Some (fault.At 2 BadScheduler) }
+    ensures large { refused 1 (codes "type B\n9999999999 idle\n") ≡ Some (fault.At 2 BadScheduler) }
+    ensures digits { refused 1 (codes "type B\n10000000000 idle\n") ≡ Some (fault.At 2 Syntax) }
     ensures given { refused 1 (codes "type B\n1 alloc 1 8\n1 give 1 2\n")
-        ≡ Some (fault.BadScheduler 3) }
+        ≡ Some (fault.At 3 BadScheduler) }
     ensures no_end { refused 1 (codes "type B\n1 free 9\n") ≡ Some fault.NoEnd }
     ensures reused { refused 1 (codes "type B\n1 alloc 1 8\n\n1 alloc 1 8\nend\n")
-        ≡ Some (fault.NameReused 4) }
+        ≡ Some (fault.At 4 NameReused) }
     ensures reused_by_another { refused 2 (codes "type B\n2 alloc 1 8\n1 alloc 1 8\nend\n")
-        ≡ Some (fault.NameReused 2) }
+        ≡ Some (fault.At 2 NameReused) }
     ensures not_held { refused 2 (codes "type B\n1 alloc 1 8\n2 free 1\nend\n")
-        ≡ Some (fault.NotHeld 3) }
+        ≡ Some (fault.At 3 NotHeld) }
     ensures not_addressed { refused 2 (codes "# x\ntype B\n2 idle\n1 take 1 5\nend\n")
-        ≡ Some (fault.NotAddressed 4) }
+        ≡ Some (fault.At 4 NotAddressed) }
     ensures wrong_first { refused 1 (codes "type B\n1 free 9\n1 frob\nend\n")
-        ≡ Some (fault.Syntax 3) }
+        ≡ Some (fault.At 3 Syntax) }
     ensures accepted { refused 64 (codes "type B\n64 alloc 1 8\n 64\tfree  1 \nend\n# x") ≡ None }
 {}
 
@@ -84,22 +86,22 @@ pub fn ruled_inputs()
 /// A line of rules is refused in another place, and where it has no rule, an unknown one, or one
 /// twice. A refusal after it has the number of its line in the input.
 pub fn refused_rules()
-    ensures no_rule { refused 1 (codes "type H\nrules\nend\n") ≡ Some (fault.Syntax 2) }
+    ensures no_rule { refused 1 (codes "type H\nrules\nend\n") ≡ Some (fault.At 2 Syntax) }
     ensures twice { refused 1 (codes "type H\nrules powers powers\nend\n")
-        ≡ Some (fault.Syntax 2) }
-    ensures unknown { refused 1 (codes "type H\nrules tree\nend\n") ≡ Some (fault.Syntax 2) }
+        ≡ Some (fault.At 2 Syntax) }
+    ensures unknown { refused 1 (codes "type H\nrules tree\nend\n") ≡ Some (fault.At 2 Syntax) }
     ensures comment_after { refused 1 (codes "type H\nrules powers # x\nend\n")
-        ≡ Some (fault.Syntax 2) }
-    ensures large { refused 1 (codes "type H\nRules powers\nend\n") ≡ Some (fault.Syntax 2) }
+        ≡ Some (fault.At 2 Syntax) }
+    ensures large { refused 1 (codes "type H\nRules powers\nend\n") ≡ Some (fault.At 2 Syntax) }
     ensures after_an_operation { refused 1 (codes "type H\n1 idle\nrules powers\nend\n")
-        ≡ Some (fault.Syntax 3) }
+        ≡ Some (fault.At 3 Syntax) }
     ensures second_line { refused 1 (codes "type H\nrules powers\nrules falling\nend\n")
-        ≡ Some (fault.Syntax 3) }
-    ensures first { refused 1 (codes "rules powers\ntype H\nend\n") ≡ Some (fault.Syntax 1) }
-    ensures after_end { refused 1 (codes "type H\nend\nrules powers\n") ≡ Some (fault.Syntax 3) }
+        ≡ Some (fault.At 3 Syntax) }
+    ensures first { refused 1 (codes "rules powers\ntype H\nend\n") ≡ Some (fault.At 1 Syntax) }
+    ensures after_end { refused 1 (codes "type H\nend\nrules powers\n") ≡ Some (fault.At 3 Syntax) }
     ensures of_a_scheduler { refused 1 (codes "type H\n1 rules powers\nend\n")
-        ≡ Some (fault.Syntax 2) }
+        ≡ Some (fault.At 2 Syntax) }
     ensures no_end { refused 1 (codes "type H\nrules powers\n") ≡ Some fault.NoEnd }
     ensures reused { refused 1 (codes "type H\nrules powers\n1 alloc 1 8\n1 alloc 1 8\nend\n")
-        ≡ Some (fault.NameReused 4) }
+        ≡ Some (fault.At 4 NameReused) }
 {}

@@ -4,6 +4,8 @@ ghost use Rattle.ea_segments.specs.Histories.{IsLegal};
 ghost use Rattle.ea_segments.specs.declared.calls.Request.TheVariants.{Back, Take};
 ghost use Rattle.ea_super.specs.Text.{book_text};
 ghost use Rattle.ea_trace.specs.declared.fault.TraceFault.TheVariants as fault;
+ghost use Rattle.ea_trace.specs.declared.fault.Reason.TheVariants.{Syntax, BadScheduler, NameReused};
+ghost use Rattle.ea_trace.specs.declared.fault.Reason.TheVariants.{NotHeld};
 ghost use Rattle.ea_trials_commands.specs.Segments.{book, first_calls, race_calls, refused, sections};
 
 /// One scheduler, whose replies are determined.
@@ -30,37 +32,37 @@ pub fn two_schedulers()
 
 /// What is refused, and what just isn't.
 pub fn refused_inputs()
-    ensures no_super { refused 1 (codes "scheduler 1\nend\n") ≡ Some (fault.Syntax 1) }
-    ensures super_again { refused 1 (codes "super\nsuper\n") ≡ Some (fault.Syntax 2) }
-    ensures request_outside { refused 1 (codes "super\ntake 1 1\n") ≡ Some (fault.Syntax 2) }
+    ensures no_super { refused 1 (codes "scheduler 1\nend\n") ≡ Some (fault.At 1 Syntax) }
+    ensures super_again { refused 1 (codes "super\nsuper\n") ≡ Some (fault.At 2 Syntax) }
+    ensures request_outside { refused 1 (codes "super\ntake 1 1\n") ≡ Some (fault.At 2 Syntax) }
     ensures no_pages { refused 1 (codes "super\nscheduler 1\ntake 1 0\n")
-        ≡ Some (fault.Syntax 3) }
+        ≡ Some (fault.At 3 Syntax) }
     ensures most_pages { refused 1 (codes "super\nscheduler 1\ntake 1 131072\nend\n") ≡ None }
     ensures many_pages { refused 1 (codes "super\nscheduler 1\ntake 1 131073\n")
-        ≡ Some (fault.Syntax 3) }
+        ≡ Some (fault.At 3 Syntax) }
     ensures greatest_name { refused 1 (codes "super\nscheduler 1\ntake 1048576 1\nend\n") ≡ None }
     ensures no_name { refused 1 (codes "super\nscheduler 1\ntake 0 1\n")
-        ≡ Some (fault.Syntax 3) }
+        ≡ Some (fault.At 3 Syntax) }
     ensures three_numbers { refused 1 (codes "super\nscheduler 1\ntake 1 1 1\n")
-        ≡ Some (fault.Syntax 3) }
+        ≡ Some (fault.At 3 Syntax) }
     ensures operation_of_a_trace { refused 1 (codes "super\nscheduler 1\nalloc 1 1\n")
-        ≡ Some (fault.Syntax 3) }
+        ≡ Some (fault.At 3 Syntax) }
     ensures after_the_end { refused 1 (codes "super\nscheduler 1\nend\n# x\nend\n")
-        ≡ Some (fault.Syntax 5) }
+        ≡ Some (fault.At 5 Syntax) }
     ensures section_not_due { refused 2 (codes "super\nscheduler 2\n")
-        ≡ Some (fault.BadScheduler 2) }
+        ≡ Some (fault.At 2 BadScheduler) }
     ensures section_too_many { refused 1 (codes "super\nscheduler 1\nscheduler 2\n")
-        ≡ Some (fault.BadScheduler 3) }
+        ≡ Some (fault.At 3 BadScheduler) }
     ensures section_missing { refused 2 (codes "super\nscheduler 1\nend\n")
-        ≡ Some (fault.BadScheduler 3) }
+        ≡ Some (fault.At 3 BadScheduler) }
     ensures reused { refused 2 (codes "super\nscheduler 1\ntake 1 1\nscheduler 2\ntake 1 1\n")
-        ≡ Some (fault.NameReused 5) }
+        ≡ Some (fault.At 5 NameReused) }
     ensures reused_after_back { refused 1 (codes "super\nscheduler 1\ntake 1 1\nback 1\ntake 1 1\n")
-        ≡ Some (fault.NameReused 5) }
+        ≡ Some (fault.At 5 NameReused) }
     ensures not_held { refused 2 (codes "super\nscheduler 1\ntake 1 1\nscheduler 2\nback 1\n")
-        ≡ Some (fault.NotHeld 5) }
+        ≡ Some (fault.At 5 NotHeld) }
     ensures held_later { refused 1 (codes "super\nscheduler 1\nback 1\ntake 1 1\n")
-        ≡ Some (fault.NotHeld 3) }
+        ≡ Some (fault.At 3 NotHeld) }
     ensures back_again { refused 1 (codes "super\nscheduler 1\ntake 1 1\nback 1\nback 1\nend\n")
         ≡ None }
     ensures no_end { refused 1 (codes "super\nscheduler 1\ntake 1 1\n") ≡ Some fault.NoEnd }

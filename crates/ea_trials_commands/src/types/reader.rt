@@ -1,7 +1,7 @@
 //! Inputs with several types, read.
 use ea_flags::DEFAULT_CONFIG;
 use ea_model::{Config, Letter};
-use ea_trace::TraceFault;
+use ea_trace::{Reason, TraceFault};
 use ea_types::read_types;
 use std::test::Fail;
 
@@ -49,7 +49,7 @@ fn an_input_is_read_or_refused_at_its_line(rt: HostRuntime) {
                 S alloc 3 33\nS alloc 4 3729\nS free 1\nS alloc 5 4376\n\
                 S alloc 6 1785 true\nS alloc 7 105\nschedule\n\
                 1*1023 1*13 1*1026 1*1025 1*1\nend\n",
-            Some(TraceFault::Syntax { line: 11 }),
+            Some(TraceFault::At(11, Reason::Syntax)),
         ),
         (
             1,
@@ -65,14 +65,14 @@ fn an_input_is_read_or_refused_at_its_line(rt: HostRuntime) {
                 T give 15 1\nT take 10 40\nT free 18\nT alloc 22 524264\nT give 17 1\n\
                 T alloc 23 1888\nT alloc 24 1693\nschedule\n1*3 1*1025 1*1024 1*174\n\
                 1*4\nend\n",
-            Some(TraceFault::Syntax { line: 22 }),
+            Some(TraceFault::At(22, Reason::Syntax)),
         ),
         (
             2,
             4,
             b"types T R\nscheduler 1\nR alloc 1 78117\nscheduler 2\nR alloc 3 104\n\
                 generate 2147483648 1\nschedule\n2*2050 1*2051 1*2050 1*157 2*3\nend\n",
-            Some(TraceFault::Syntax { line: 6 }),
+            Some(TraceFault::At(6, Reason::Syntax)),
         ),
         (
             1,

@@ -6,6 +6,7 @@ ghost use Rattle.ea_model.specs.declared.settings.Letter.TheVariants.{B, D, H, T
 ghost use Rattle.ea_model.specs.declared.trace.Mode.TheVariants.{Threads, Generated};
 ghost use Rattle.ea_trace.specs.Language.{trace};
 ghost use Rattle.ea_trace.specs.declared.fault.TraceFault.TheVariants as fault;
+ghost use Rattle.ea_trace.specs.declared.fault.Reason.TheVariants.{Syntax, BadScheduler};
 ghost use Rattle.ea_trials_definitions.specs.Traces.{in_turns, is_stopped_trace, is_trace, refused};
 ghost use Rattle.ea_trials_definitions.specs.Traces.{refused_cuts, stop, turns};
 
@@ -41,17 +42,17 @@ pub fn worked_traces()
         ++ codes " alloc\t1 0000000100 \n#end\nschedule\r\n\t\nend") 1
         ≡ is_trace H (in_turns []) ((Alloc 1 100 ∷ []) ∷ []) 1 }
     ensures other_bytes { refused 1 (codes "type H\nscheduler 1\n" ++ 255 ∷ codes "\n")
-        ≡ Some (fault.Syntax 3) }
+        ≡ Some (fault.At 3 Syntax) }
 {}
 
 /// The first 0 to 43 bytes of a trace: only the whole of it is one.
 pub fn every_cut()
     ensures { refused_cuts 1 (codes "type H\nscheduler 1\nalloc 1 100\nschedule\nend") 44
-        ≡ (Some fault.NoEnd ∷ []) ++ replicate 5 (Some (fault.Syntax 1))
-        ++ replicate 2 (Some fault.NoEnd) ++ replicate 7 (Some (fault.Syntax 2))
-        ++ (Some (fault.BadScheduler 2) ∷ []) ++ replicate 2 (Some (fault.Syntax 2))
-        ++ replicate 2 (Some fault.NoEnd) ++ replicate 8 (Some (fault.Syntax 3))
-        ++ replicate 4 (Some fault.NoEnd) ++ replicate 7 (Some (fault.Syntax 4))
-        ++ replicate 2 (Some fault.NoEnd) ++ replicate 2 (Some (fault.Syntax 5))
+        ≡ (Some fault.NoEnd ∷ []) ++ replicate 5 (Some (fault.At 1 Syntax))
+        ++ replicate 2 (Some fault.NoEnd) ++ replicate 7 (Some (fault.At 2 Syntax))
+        ++ (Some (fault.At 2 BadScheduler) ∷ []) ++ replicate 2 (Some (fault.At 2 Syntax))
+        ++ replicate 2 (Some fault.NoEnd) ++ replicate 8 (Some (fault.At 3 Syntax))
+        ++ replicate 4 (Some fault.NoEnd) ++ replicate 7 (Some (fault.At 4 Syntax))
+        ++ replicate 2 (Some fault.NoEnd) ++ replicate 2 (Some (fault.At 5 Syntax))
         ++ (None ∷ []) }
 {}

@@ -1,6 +1,7 @@
 use Rattle.std.proofs.Common.{◌≡◌, [], true}
 use Rattle.std.specs.List.{AllWithin}
-use Rattle.ea_sched.specs.Brought.{is_placed, name_brought}
+use Rattle.ea_model.specs.Trace.{name_brought}
+use Rattle.ea_sched.specs.Brought.{is_placed}
 use Rattle.ea_sched.proofs.brought.names_for.Given as goal
 
 -- each name that the operations passed bring has a place

@@ -1,17 +1,14 @@
-use Rattle.std.proofs.Common.{◌≡◌, ◌+◌, ◌≤◌, length}
-use Rattle.std.specs.Option.{option_map_or}
-use Rattle.ea_trace.specs.Language.{lines_of}
-use Rattle.ea_frame.specs.Lines.{rest_lines}
+use Rattle.std.proofs.Common.{◌≡◌, ◌+◌, length, map}
+use Rattle.ea_model.specs.Words.{words}
 use Rattle.ea_types.specs.Language.{before_first, from_first}
 use Rattle.ea_types.proofs.reader.first_unskipped.Given as goal
 
-abbrev pub invariant-loop-rest : goal.invariant-loop-rest
-invariant-loop-rest l = record {
-  lines : from_first (rest_lines l.rest) ≡ from_first (lines_of l.fn.bytes);
-  before : length (before_first (rest_lines l.rest)) + l.number
-      ≡ length (before_first (lines_of l.fn.bytes));
-  fewer : option_map_or (λ r. l.number + length r.now) l.rest 0 ≤ length l.fn.bytes;
+abbrev pub invariant-loop-number : goal.invariant-loop-number
+invariant-loop-number l = record {
+  lines : from_first (map words l.lines.left) ≡ from_first (map words l.initial.lines.left);
+  before : l.lines.number + length (before_first (map words l.lines.left))
+      ≡ l.initial.lines.number + length (before_first (map words l.initial.lines.left));
 }
 
-abbrev pub decreases-loop-rest : goal.decreases-loop-rest
-decreases-loop-rest l = option_map_or (λ r. length r.now + 1) l.rest 0
+abbrev pub decreases-loop-number : goal.decreases-loop-number
+decreases-loop-number l = length l.lines.left

@@ -8,7 +8,6 @@ use Rattle.ea_recorded.proofs.reader.Reading.new.Goals as goal
 pub returns-clause-reads : goal.returns-clause-reads
 returns-clause-reads c = λ asked left e. record {
   schedulers = refl;
-  count = refl;
   told = [];
   own = record {
     own = c.new.ensures.items;

@@ -3,6 +3,7 @@ use Rattle.std.specs.Prelude.{IfSome}
 use Rattle.std.proofs.lemmas.Result.{err_from_is_err_and}
 use Rattle.ea_model.specs.Words.{words}
 use Rattle.ea_trace.specs.declared.fault.TraceFault.TheVariants as fault
+use Rattle.ea_trace.specs.declared.fault.Reason.TheVariants.{Syntax, BadScheduler}
 use Rattle.ea_recorded.specs.Language.{line_of, next, refusal}
 use Rattle.ea_recorded.specs.Reading.{early_left, early_refusal, is_kept}
 use Rattle.ea_recorded.proofs.Reached.{bad-gives, bad-refused, early-kept, early-refused, early-taken}
@@ -12,32 +13,32 @@ use Rattle.ea_recorded.proofs.Reached.{syntax-refused}
 use Rattle.ea_recorded.proofs.reader.Reading.take.Goals as goal
 
 pub returns-then-not-may_stand-clause-err : goal.returns-then-not-may_stand-clause-err
-returns-then-not-may_stand-clause-err c = λ n number asked left h.
+returns-then-not-may_stand-clause-err c = λ n asked left h.
     let r = c.args.self.now in
     let ws = words c.args.text.now in
-    syntax-gives n number asked ws left r h c.may_stand.result
+    syntax-gives n c.args.number asked ws left r h c.may_stand.result
     (said-stands ws _ r.stage c.read_own-line.ensures.line c.may_stand.result c.may_stand.ensures)
     c.if-not-may_stand.true
 
 pub returns-then-is_bad-clause-err : goal.returns-then-is_bad-clause-err
-returns-then-is_bad-clause-err c = λ n number asked left h.
+returns-then-is_bad-clause-err c = λ n asked left h.
     let r = c.args.self.now in
     let ws = words c.args.text.now in
-    bad-gives n number asked ws left r h c.may_stand.result c.is_bad.result
+    bad-gives n c.args.number asked ws left r h c.may_stand.result c.is_bad.result
     (said-stands ws _ r.stage c.read_own-line.ensures.line c.may_stand.result c.may_stand.ensures)
     (said-bad ws _ r.schedulers c.read_own-line.ensures.line c.is_bad.result c.is_bad.ensures)
     c.if-not-may_stand.false c.if-is_bad.true
 
 pub returns-clause-ok : goal.returns-clause-ok
-returns-clause-ok c = λ n number asked left h.
+returns-clause-ok c = λ n asked left h.
     let r = c.args.self.now in
     let ws = words c.args.text.now in
-    reads-more n number asked ws left r h c.may_stand.result c.is_bad.result
+    reads-more n c.args.number asked ws left r h c.may_stand.result c.is_bad.result
     (said-stands ws _ r.stage c.read_own-line.ensures.line c.may_stand.result c.may_stand.ensures)
     (said-bad ws _ r.schedulers c.read_own-line.ensures.line c.is_bad.result c.is_bad.ensures)
-    c.if-not-may_stand.false c.if-is_bad.false _ refl refl
+    c.if-not-may_stand.false c.if-is_bad.false _ refl
     (said-next ws _ r.stage c.read_own-line.ensures.line _ c.next-self.ensures)
-    (λ told are. said-told ws _ r.number told c.add.new.lines.items c.read_own-line.ensures.line
+    (λ told are. said-told ws _ c.args.number told c.add.new.lines.items c.read_own-line.ensures.line
     (c.in_ok-add.ensures.told told ws are c.read_own-line.ensures.line c.read_own-line.ensures.range))
 
 pub returns-then-not-may_stand-clause-sure : goal.returns-then-not-may_stand-clause-sure
@@ -45,8 +46,8 @@ returns-then-not-may_stand-clause-sure c =
     let r = c.args.self.now in
     let ws = words c.args.text.now in
     let l = line_of ws in
-    sure-some _ (refusal r.schedulers r.number r.stage l) (fault.Syntax c.args.self.now.number)
-    (syntax-refused r.schedulers r.number r.stage l c.may_stand.result
+    sure-some _ (refusal r.schedulers c.args.number r.stage l) (fault.At c.args.number Syntax)
+    (syntax-refused r.schedulers c.args.number r.stage l c.may_stand.result
     (said-stands ws _ r.stage c.read_own-line.ensures.line c.may_stand.result
     c.may_stand.ensures) c.if-not-may_stand.true)
 
@@ -55,9 +56,9 @@ returns-then-not-may_stand-clause-early c = λ left.
     let r = c.args.self.now in
     let ws = words c.args.text.now in
     let l = line_of ws in
-    early-refused _ (refusal r.schedulers r.number r.stage l)
-    (early_refusal r.schedulers (next r.stage l) (r.number + 1) left) (is_kept l) (fault.Syntax c.args.self.now.number)
-    (syntax-refused r.schedulers r.number r.stage l c.may_stand.result
+    early-refused _ (refusal r.schedulers c.args.number r.stage l)
+    (early_refusal r.schedulers (next r.stage l) (c.args.number + 1) left) (is_kept l) (fault.At c.args.number Syntax)
+    (syntax-refused r.schedulers c.args.number r.stage l c.may_stand.result
     (said-stands ws _ r.stage c.read_own-line.ensures.line c.may_stand.result
     c.may_stand.ensures) c.if-not-may_stand.true)
 
@@ -66,8 +67,8 @@ returns-then-is_bad-clause-sure c =
     let r = c.args.self.now in
     let ws = words c.args.text.now in
     let l = line_of ws in
-    sure-some _ (refusal r.schedulers r.number r.stage l) (fault.BadScheduler c.args.self.now.number)
-    (bad-refused r.schedulers r.number r.stage l c.may_stand.result
+    sure-some _ (refusal r.schedulers c.args.number r.stage l) (fault.At c.args.number BadScheduler)
+    (bad-refused r.schedulers c.args.number r.stage l c.may_stand.result
     (said-stands ws _ r.stage c.read_own-line.ensures.line c.may_stand.result
     c.may_stand.ensures) c.is_bad.result
     (said-bad ws _ r.schedulers c.read_own-line.ensures.line c.is_bad.result
@@ -78,9 +79,9 @@ returns-then-is_bad-clause-early c = λ left.
     let r = c.args.self.now in
     let ws = words c.args.text.now in
     let l = line_of ws in
-    early-refused _ (refusal r.schedulers r.number r.stage l)
-    (early_refusal r.schedulers (next r.stage l) (r.number + 1) left) (is_kept l) (fault.BadScheduler c.args.self.now.number)
-    (bad-refused r.schedulers r.number r.stage l c.may_stand.result
+    early-refused _ (refusal r.schedulers c.args.number r.stage l)
+    (early_refusal r.schedulers (next r.stage l) (c.args.number + 1) left) (is_kept l) (fault.At c.args.number BadScheduler)
+    (bad-refused r.schedulers c.args.number r.stage l c.may_stand.result
     (said-stands ws _ r.stage c.read_own-line.ensures.line c.may_stand.result
     c.may_stand.ensures) c.is_bad.result
     (said-bad ws _ r.schedulers c.read_own-line.ensures.line c.is_bad.result
@@ -91,8 +92,8 @@ returns-in_err-add-clause-sure c =
     let r = c.args.self.now in
     let ws = words c.args.text.now in
     let l = line_of ws in
-    sure-none _ (refusal r.schedulers r.number r.stage l)
-    (none-refused r.schedulers r.number r.stage l c.may_stand.result
+    sure-none _ (refusal r.schedulers c.args.number r.stage l)
+    (none-refused r.schedulers c.args.number r.stage l c.may_stand.result
     (said-stands ws _ r.stage c.read_own-line.ensures.line c.may_stand.result
     c.may_stand.ensures) c.is_bad.result
     (said-bad ws _ r.schedulers c.read_own-line.ensures.line c.is_bad.result
@@ -104,9 +105,9 @@ returns-in_err-add-clause-early c =
     let ws = words c.args.text.now in
     let l = line_of ws in
     let p = err_from_is_err_and c.from_residual.result c.from_residual.ensures.1 in
-    rw (p.1, p.2) (λ left. early-kept _ (refusal r.schedulers r.number r.stage l)
-    (early_refusal r.schedulers (next r.stage l) (r.number + 1) left) (is_kept l)
-    (none-refused r.schedulers r.number r.stage l c.may_stand.result
+    rw (p.1, p.2) (λ left. early-kept _ (refusal r.schedulers c.args.number r.stage l)
+    (early_refusal r.schedulers (next r.stage l) (c.args.number + 1) left) (is_kept l)
+    (none-refused r.schedulers c.args.number r.stage l c.may_stand.result
     (said-stands ws _ r.stage c.read_own-line.ensures.line c.may_stand.result
     c.may_stand.ensures) c.is_bad.result
     (said-bad ws _ r.schedulers c.read_own-line.ensures.line c.is_bad.result
@@ -119,8 +120,8 @@ returns-clause-sure c =
     let r = c.args.self.now in
     let ws = words c.args.text.now in
     let l = line_of ws in
-    sure-none _ (refusal r.schedulers r.number r.stage l)
-    (none-refused r.schedulers r.number r.stage l c.may_stand.result
+    sure-none _ (refusal r.schedulers c.args.number r.stage l)
+    (none-refused r.schedulers c.args.number r.stage l c.may_stand.result
     (said-stands ws _ r.stage c.read_own-line.ensures.line c.may_stand.result
     c.may_stand.ensures) c.is_bad.result
     (said-bad ws _ r.schedulers c.read_own-line.ensures.line c.is_bad.result
@@ -131,12 +132,12 @@ returns-clause-goes c = λ left.
     let r = c.args.self.now in
     let ws = words c.args.text.now in
     let l = line_of ws in
-    subst (λ st. IfSome (early_left r (ws ∷ left))
-    (λ f. early_refusal r.schedulers st (r.number + 1) left ≡ Some f))
+    subst (λ st. IfSome (early_left r c.args.number (ws ∷ left))
+    (λ f. early_refusal r.schedulers st (c.args.number + 1) left ≡ Some f))
     (sym (said-next ws _ r.stage c.read_own-line.ensures.line _ c.next-self.ensures))
-    (early-taken (refusal r.schedulers r.number r.stage l)
-    (early_refusal r.schedulers (next r.stage l) (r.number + 1) left) (is_kept l)
-    (none-refused r.schedulers r.number r.stage l c.may_stand.result
+    (early-taken (refusal r.schedulers c.args.number r.stage l)
+    (early_refusal r.schedulers (next r.stage l) (c.args.number + 1) left) (is_kept l)
+    (none-refused r.schedulers c.args.number r.stage l c.may_stand.result
     (said-stands ws _ r.stage c.read_own-line.ensures.line c.may_stand.result
     c.may_stand.ensures) c.is_bad.result
     (said-bad ws _ r.schedulers c.read_own-line.ensures.line c.is_bad.result

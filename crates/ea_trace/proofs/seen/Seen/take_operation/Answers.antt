@@ -1,5 +1,6 @@
 use Rattle.std.proofs.Common.{◌≡◌, true, false, sym, ◌∙◌}
-use Rattle.ea_trace.specs.Language.{gives_outside, may_stand, reuses, sections, stage_after}
+use Rattle.ea_model.specs.Trace.{gives_outside}
+use Rattle.ea_trace.specs.Language.{may_stand, reuses, sections, stage_after}
 use Rattle.ea_trace.specs.Language.{stops_after}
 use Rattle.ea_trace.specs.declared.lines.Line.TheVariants.{Operation}
 use Rattle.ea_trace.proofs.Reading.{accepted, lacking}
