@@ -7,7 +7,7 @@ use Rattle.ea_model.specs.declared.settings.Letter.TheVariants.{B, D, E, H, L, R
 use Rattle.ea_model.specs.declared.settings.Strategy.TheVariants.{AoffCbf}
 use Rattle.ea_model.specs.declared.settings.Settings.{Settings}
 use Rattle.ea_model.specs.declared.settings.Config.{Config}
-use Rattle.ea_model.specs.Settings.{can_migrate, lets_migrate, region_pages}
+use Rattle.ea_model.specs.Settings.{can_migrate, each, lets_migrate, region_pages}
 use Rattle.ea_model.specs.Units.{pages_for}
 use Rattle.ea_flags.specs.declared.flag.Scope.{Scope}
 use Rattle.ea_flags.specs.declared.flag.Scope.TheVariants.{One, All}
@@ -44,16 +44,7 @@ changed_for (One L) x c = record c { l = changed x c.l }
 changed_for (One R) x c = record c { r = changed x c.r }
 changed_for (One S) x c = record c { s = changed x c.s }
 changed_for (One T) x c = record c { t = changed x c.t }
-changed_for All x c = record c {
-  b = changed x c.b;
-  d = changed x c.d;
-  e = changed x c.e;
-  h = changed x c.h;
-  l = changed x c.l;
-  r = changed x c.r;
-  s = changed x c.s;
-  t = changed x c.t;
-}
+changed_for All x c = each (changed x) c
 
 -- a setting holds from now on, until a later one of the same thing
 abbrev pub set_by : Config → Setting → Config
@@ -69,16 +60,7 @@ migrating s = if lets_migrate s && not (can_migrate s.strategy) then
 
 -- what holds after the last word: carriers of temp_alloc don't migrate, whatever was set
 abbrev pub settled : Config → Config
-settled c = record c {
-  b = migrating c.b;
-  d = migrating c.d;
-  e = migrating c.e;
-  h = migrating c.h;
-  l = migrating c.l;
-  r = migrating c.r;
-  s = migrating c.s;
-  t = record c.t { acul = 0 };
-}
+settled c = record (each migrating c) { t = record c.t { acul = 0 } }
 
 -- whether a main carrier fits in that many pages
 abbrev pub fits : Settings → ℕ → Bool

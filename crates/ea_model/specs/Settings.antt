@@ -52,21 +52,25 @@ most_count s = if s.rules.counter then MOST_COUNT else 0
 abbrev pub raised : Settings → ℕ → ℕ
 raised s count = min (count + PLACED_COUNT) (most_count s)
 
+-- a change of the settings of each allocator
+abbrev pub each : (Settings → Settings) → Config → Config
+each f c = record c {
+  b = f c.b;
+  d = f c.d;
+  e = f c.e;
+  h = f c.h;
+  l = f c.l;
+  r = f c.r;
+  s = f c.s;
+  t = f c.t;
+}
+
 -- settings, and those of all allocators, by these rules
 abbrev pub ruled : Rules → Settings → Settings
 ruled r s = record s { rules = r }
 
 abbrev pub by_rules : Rules → Config → Config
-by_rules r c = record c {
-  b = ruled r c.b;
-  d = ruled r c.d;
-  e = ruled r c.e;
-  h = ruled r c.h;
-  l = ruled r c.l;
-  r = ruled r c.r;
-  s = ruled r c.s;
-  t = ruled r c.t;
-}
+by_rules r c = each (ruled r) c
 
 -- whether carriers can migrate under the strategy
 abbrev pub can_migrate : Strategy → Bool

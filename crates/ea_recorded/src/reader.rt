@@ -125,8 +125,8 @@ impl Reading {
         }
     }
 
-    /// Takes the line with this number, if it isn't refused. No memory is needed to refuse a line, nor to take
-    /// one that isn't kept; to take a line of an operation may fail with `OutOfMemory`.
+    /// Takes the line with this number, if it isn't refused. No memory is needed to refuse a line,
+    /// nor to take one that isn't kept; to take a line of an operation may fail with `OutOfMemory`.
     fn take(&mut self, number: u32, text: &[u8]) -> Result<(), TraceFault>
         ensures ok { OnOk result ((n : ℕ) (asked : Asked) (left : WordLines)
             → Reads n asked number (words text.now ∷ left) self.old

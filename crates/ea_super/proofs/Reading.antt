@@ -17,13 +17,12 @@ use Rattle.ea_super.specs.declared.lines.Line.{Line}
 abbrev pub read_rest : ℕ → Earlier → List (List ℕ) → Answer
 read_rest n earlier left = read_after n earlier (map line_of_words (map words left))
 
-pub first-read : (n : ℕ) (earlier : Earlier) (left : List (List ℕ)) (first : List ℕ)
-    (later : List (List ℕ)) (line : Line) (whole : Answer) → left ≡ first ∷ later
-    → line ≡ line_of_words (words first) → read_rest n earlier left ≡ whole
+pub first-read : (n : ℕ) (earlier : Earlier) (first : List ℕ) (later : List (List ℕ)) (line : Line)
+    (whole : Answer) → line ≡ line_of_words (words first)
+    → read_rest n earlier (first ∷ later) ≡ whole
     → refused_or (refusal n earlier line) (read_rest n (line ∷ earlier) later) ≡ whole
-first-read n earlier left first later line whole e same is = subst (λ l.
-    refused_or (refusal n earlier l) (read_rest n (l ∷ earlier) later) ≡ whole) (sym same)
-    (sym (ap (read_rest n earlier) e) ∙ is)
+first-read n earlier first later line whole same is = subst (λ l.
+    refused_or (refusal n earlier l) (read_rest n (l ∷ earlier) later) ≡ whole) (sym same) is
 
 -- a line that isn't refused leaves it to the rest
 pub accepted-read : (o : Option TraceFault) (later whole : Answer) → o ≡ None
@@ -52,13 +51,12 @@ pub left-first : (o : Option TraceFault) → IfSome o (λ f. o ≡ Some f)
 left-first None = tt
 left-first (Some f) = refl
 
-module _ (n : ℕ) (earlier : Earlier) (left : List (List ℕ)) (first : List ℕ)
-    (later : List (List ℕ)) (line : Line) (e : left ≡ first ∷ later)
+module _ (n : ℕ) (earlier : Earlier) (first : List ℕ) (later : List (List ℕ)) (line : Line)
     (same : line ≡ line_of_words (words first)) where
-  line-early : rest_early n earlier left
+  line-early : rest_early n earlier (first ∷ later)
       ≡ or_later (refusal n earlier line) (is_kept line) (rest_early n (line ∷ earlier) later)
-  line-early = ap (rest_early n earlier) e ∙ ap (λ l.
-      or_later (refusal n earlier l) (is_kept l) (rest_early n (l ∷ earlier) later)) (sym same)
+  line-early = ap (λ l. or_later (refusal n earlier l) (is_kept l)
+      (rest_early n (l ∷ earlier) later)) (sym same)
 
   later-early : (o later : Option TraceFault) (kept : Bool) (f : TraceFault) → o ≡ None
       → or_later o kept later ≡ Some f → later ≡ Some f
@@ -68,7 +66,7 @@ module _ (n : ℕ) (earlier : Earlier) (left : List (List ℕ)) (first : List �
 
   -- a line that isn't refused leaves it to the rest
   pub left-next : (whole : Option TraceFault) → refusal n earlier line ≡ None
-      → IsLeft n earlier left whole → IsLeft n (line ∷ earlier) later whole
+      → IsLeft n earlier (first ∷ later) whole → IsLeft n (line ∷ earlier) later whole
   left-next None none is = tt
   left-next (Some f) none is =
       later-early (refusal n earlier line) (rest_early n (line ∷ earlier) later) (is_kept line) f
@@ -94,7 +92,7 @@ module _ (n : ℕ) (earlier : Earlier) (left : List (List ℕ)) (first : List �
       → IfSome (refusal n earlier line)
       (λ h. ◌≡◌ {A = Result (Unit {0}) TraceFault} (Err g) (Err h))
       → (is_kept line ≡ false → g ≢ fault.OutOfMemory) → IsRefusal g (refusal n earlier line)
-      → IsLeft n earlier left whole
+      → IsLeft n earlier (first ∷ later) whole
       → IfSome whole (λ f. ◌≡◌ {A = Result A TraceFault} (Err g) (Err f))
   left-fails A None g sure free refused is = tt
   left-fails A (Some f) g sure free refused is = ap Err
@@ -102,11 +100,10 @@ module _ (n : ℕ) (earlier : Earlier) (left : List (List ℕ)) (first : List �
       sure free refused (sym line-early ∙ is))
 
 -- at the end of the text
-pub left-ends : {A : Type 0} (n : ℕ) (earlier : Earlier) (left : List (List ℕ))
-    (whole : Option TraceFault) (result : Result A TraceFault) → left ≡ []
+pub left-ends : {A : Type 0} (n : ℕ) (earlier : Earlier) (whole : Option TraceFault)
+    (result : Result A TraceFault)
     → IfSome (end_refusal (stage_after earlier)) (λ f. result ≡ Err f)
-    → IsLeft n earlier left whole → IfSome whole (λ f. result ≡ Err f)
-left-ends n earlier left None result none sure is = tt
-left-ends n earlier left (Some f) result none sure is =
-    subst (λ o. IfSome o (λ f. result ≡ Err f))
-    (sym (ap (rest_early n earlier) none) ∙ is) sure
+    → IsLeft n earlier [] whole → IfSome whole (λ f. result ≡ Err f)
+left-ends n earlier None result sure is = tt
+left-ends n earlier (Some f) result sure is =
+    subst (λ o. IfSome o (λ f. result ≡ Err f)) is sure

@@ -4,14 +4,14 @@ use Rattle.std.proofs.Common.{Option, Some, None, Ok, Err, if◌then◌else◌, 
 use Rattle.std.proofs.Common.{length, map, nat_le, nat_lt, refl, sym, ap, subst, ◌∙◌, append-nil}
 use Rattle.std.proofs.Common.{arith, rules, tests}
 use Rattle.std.specs.List.{All}
-use Rattle.std.specs.Option.{option_and_then, option_map_or}
-use Rattle.std.specs.Prelude.{IfSome}
+use Rattle.std.specs.Option.{option_and_then}
 use Rattle.std.proofs.lemmas.List.Elements.{All-weaker}
 use Rattle.ea_model.specs.Trace.{IsValidTrace, plain}
+use Rattle.ea_model.specs.Words.{LinesLeft, lines, words}
 use Rattle.ea_model.specs.declared.settings.Config.{Config}
 use Rattle.ea_model.specs.declared.settings.Letter.{Letter}
 use Rattle.ea_model.specs.declared.trace.Trace.{Trace}
-use Rattle.ea_trace.specs.Language.{LineWords, WordLines}
+use Rattle.ea_trace.specs.Language.{LineWords, WordLines, lines_of}
 use Rattle.ea_trace.specs.declared.fault.TraceFault.{TraceFault}
 use Rattle.ea_trace.specs.declared.fault.TraceFault.TheVariants as fault
 use Rattle.ea_trace.specs.declared.fault.Reason.TheVariants.{TooMany}
@@ -21,7 +21,7 @@ use Rattle.ea_types.specs.Input.{AreCounted, GivesAll, HaveOneMode, HaveTexts}
 use Rattle.ea_types.specs.Language.{Answers, are_different, are_many, are_types, before_first}
 use Rattle.ea_types.specs.Language.{from_first, letters_in, projection, read_rest, refused_if}
 use Rattle.ea_types.specs.Language.{traces_by, traces_of, types_in, wrong_at}
-use Rattle.ea_types.specs.Reading.{IsWrongAt, Reads, Whole, whole_of}
+use Rattle.ea_types.specs.Reading.{IsFirstLine, IsWrongAt, Reads, Whole, whole_of}
 use Rattle.ea_types.specs.Readers.{GivesEach, HasRead, HasRoom, letters_of}
 use Rattle.ea_types.specs.Sections.{all_parts, and_part, parts_over, parts_with}
 use Rattle.ea_types.specs.declared.input.TheConstants.{MAX_TYPES}
@@ -87,6 +87,22 @@ pub record IsFound (ls : WordLines) (number : ℕ) (l : LineWords) (after : Word
   pub from : from_first ls ≡ l ∷ after
   pub at : number ≡ length (before_first ls) + 1
   pub letters : types_in l ≡ Some types
+
+-- it is the first one that isn't skipped of all lines
+pub found-at : (bytes : List ℕ) (new left : LinesLeft) (number : ℕ) (line : List ℕ)
+    (types : List Letter) → new.left ≡ lines bytes → new.number ≡ 0
+    → IsFirstLine new left number line → types_in (words line) ≡ Some types
+    → IsFound (lines_of bytes) number (words line) (map words left.left) types
+found-at bytes new left number line types all none first letters = record {
+  from = ap (λ ls. from_first (map words ls)) (sym all) ∙ first.lines;
+  at = omega (
+    arith,
+    first.number,
+    none,
+    ap (λ ls. length (before_first (map words ls))) all,
+  );
+  letters = letters;
+}
 
 pub err-given : (f : TraceFault) (read : Answers) → GivesEach (Err f) read → GivesAll (Err f) read
 err-given (fault.At line reason) read h = h

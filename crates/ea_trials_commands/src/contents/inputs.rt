@@ -1,6 +1,7 @@
 //! Whole inputs with writes and reads.
 ghost use Rattle.std.specs.Prelude.{◌≡◌, ◌++◌, [], ◌∷◌, Some, codes, flat_map};
-ghost use Rattle.ea_trace.specs.declared.fault.TraceFault.TheVariants.{NotHeld, Syntax};
+ghost use Rattle.ea_trace.specs.declared.fault.Reason.TheVariants.{NotHeld, Syntax};
+ghost use Rattle.ea_trace.specs.declared.fault.TraceFault.TheVariants.{At};
 ghost use Rattle.ea_contents.specs.declared.access.AccessEntry.TheVariants.{Found, ReadSkipped};
 ghost use Rattle.ea_contents.specs.declared.access.AccessEntry.TheVariants.{WriteOutside, Wrote};
 ghost use Rattle.ea_contents.specs.Text.{line_text};
@@ -26,8 +27,8 @@ pub fn lines_of_a_move()
 /// What is refused: first what the trace is refused for, then a line that is malformed or stands
 /// elsewhere, then a name that isn't held.
 pub fn refusals()
-    ensures trace { of_no_trace ≡ Some (NotHeld 4) }
-    ensures malformed { unread ≡ Some (Syntax 4) }
-    ensures elsewhere { outside_sections ≡ Some (Syntax 5) }
-    ensures unheld { of_no_name ≡ Some (NotHeld 4) }
+    ensures trace { of_no_trace ≡ Some (At 4 NotHeld) }
+    ensures malformed { unread ≡ Some (At 4 Syntax) }
+    ensures elsewhere { outside_sections ≡ Some (At 5 Syntax) }
+    ensures unheld { of_no_name ≡ Some (At 4 NotHeld) }
 {}

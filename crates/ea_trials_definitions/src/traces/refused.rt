@@ -1,8 +1,8 @@
 //! Texts that are no traces, with the first refusal.
 ghost use Rattle.std.specs.Prelude.{◌≡◌, ◌++◌, codes, Some};
 ghost use Rattle.ea_trace.specs.declared.fault.TraceFault.TheVariants as fault;
-ghost use Rattle.ea_trace.specs.declared.fault.Reason.TheVariants.{Syntax, BadScheduler, NameReused};
-ghost use Rattle.ea_trace.specs.declared.fault.Reason.TheVariants.{NotHeld, NotAddressed, TooMany};
+ghost use Rattle.ea_trace.specs.declared.fault.Reason.TheVariants.{Syntax, BadScheduler};
+ghost use Rattle.ea_trace.specs.declared.fault.Reason.TheVariants.{NameReused, NotHeld, NotAddressed, TooMany};
 ghost use Rattle.ea_trials_definitions.specs.Traces.{refused, times};
 
 /// Names that are used again, and names that the section does not hold.
@@ -35,11 +35,13 @@ pub fn refused_names()
         (codes "type H\nscheduler 1\nalloc 1 1\ngive 1 2\nscheduler 2\ntake 1 1\ngive 1 1\n")
         ≡ Some (fault.At 7 NameReused) }
     ensures freed { refused 1 (codes "type H\nscheduler 1\nfree 2\n") ≡ Some (fault.At 3 NotHeld) }
-    ensures given { refused 1 (codes "type H\nscheduler 1\ngive 1 1\n") ≡ Some (fault.At 3 NotHeld) }
+    ensures given { refused 1 (codes "type H\nscheduler 1\ngive 1 1\n")
+        ≡ Some (fault.At 3 NotHeld) }
     ensures reallocated { refused 1 (codes "type H\nscheduler 1\nrealloc 1 2 1\n")
         ≡ Some (fault.At 3 NotHeld) }
     ensures freed_by_another { refused 2
-        (codes "type H\nscheduler 1\nalloc 1 1\nscheduler 2\nfree 1\n") ≡ Some (fault.At 5 NotHeld) }
+        (codes "type H\nscheduler 1\nalloc 1 1\nscheduler 2\nfree 1\n")
+        ≡ Some (fault.At 5 NotHeld) }
     ensures line_after_skipped { refused 1 (codes "# c\n\ntype H\n# c\nscheduler 1\n\n\nfree 2\n")
         ≡ Some (fault.At 8 NotHeld) }
 {}
@@ -53,7 +55,8 @@ pub fn refused_places()
     ensures wrong_section_first { refused 1 (codes "scheduler 9\n") ≡ Some (fault.At 1 Syntax) }
     ensures operation_without_section { refused 1 (codes "type H\nalloc 1 1\n")
         ≡ Some (fault.At 2 Syntax) }
-    ensures give_without_section { refused 1 (codes "type H\ngive 1 1\n") ≡ Some (fault.At 2 Syntax) }
+    ensures give_without_section { refused 1 (codes "type H\ngive 1 1\n")
+        ≡ Some (fault.At 2 Syntax) }
     ensures give_outside_without_section { refused 1 (codes "type H\ngive 1 9\n")
         ≡ Some (fault.At 2 BadScheduler) }
     ensures give_outside { refused 1 (codes "type H\nscheduler 1\nalloc 1 1\ngive 1 2\n")
@@ -117,12 +120,14 @@ pub fn refused_numbers()
         ≡ Some (fault.At 3 Syntax) }
     ensures most_bytes { refused 1 (codes "type H\nscheduler 1\nalloc 1 1073741823\n")
         ≡ Some fault.NoEnd }
-    ensures no_tries { refused 1 (codes "type H\nscheduler 1\ntake 1 0\n") ≡ Some (fault.At 3 Syntax) }
+    ensures no_tries { refused 1 (codes "type H\nscheduler 1\ntake 1 0\n")
+        ≡ Some (fault.At 3 Syntax) }
     ensures tries_too_many { refused 1 (codes "type H\nscheduler 1\ntake 1 10000001\n")
         ≡ Some (fault.At 3 Syntax) }
     ensures most_tries { refused 1 (codes "type H\nscheduler 1\ntake 1 10000000\n")
         ≡ Some fault.NoEnd }
-    ensures signed { refused 1 (codes "type H\nscheduler 1\nalloc +1 1\n") ≡ Some (fault.At 3 Syntax) }
+    ensures signed { refused 1 (codes "type H\nscheduler 1\nalloc +1 1\n")
+        ≡ Some (fault.At 3 Syntax) }
     ensures negative { refused 1 (codes "type H\nscheduler 1\nalloc 1 -1\n")
         ≡ Some (fault.At 3 Syntax) }
     ensures hexadecimal { refused 1 (codes "type H\nscheduler 1\nalloc 1 0x10\n")
@@ -196,7 +201,8 @@ pub fn refused_turns()
     ensures syntax_before_many { refused 1
         (codes "type H\nscheduler 1\nschedule\n1*100000000 1 x\n") ≡ Some (fault.At 4 Syntax) }
     ensures scheduler_before_many { refused 1
-        (codes "type H\nscheduler 1\nschedule\n1*100000000 1 2\n") ≡ Some (fault.At 4 BadScheduler) }
+        (codes "type H\nscheduler 1\nschedule\n1*100000000 1 2\n")
+        ≡ Some (fault.At 4 BadScheduler) }
     ensures of_two { refused 2 (codes "type H\nscheduler 1\nscheduler 2\nschedule\n1*518 2*514 3\n")
         ≡ Some (fault.At 5 BadScheduler) }
     ensures before_schedule_outside { refused 1 (codes "type H\nscheduler 1\n9*9\n")

@@ -13,7 +13,6 @@ loop-number-preserved c =
     let known = c.loop-number.invariant in
     let earlier : Earlier = known.0 in
     let line = c.read_line.result in
-    let left = c.loop-number.lines.left in
     let later = c.next.new.self.left in
     let first = c.in-Some.line.now in
     let next = c.in-Some.ensures in
@@ -25,10 +24,10 @@ loop-number-preserved c =
       count ∙ sym next.before,
       accepted-read (refusal n earlier line) (read_rest n (line ∷ earlier) later)
           (requests_in c.args.bytes.now n) taken.accepted
-          (first-read n earlier left first later line (requests_in c.args.bytes.now n) next.lines
-          c.read_line.ensures.line known.3),
-      left-next n earlier left first later line next.lines c.read_line.ensures.line
-          (early_refusal_in c.args.bytes.now n) taken.accepted known.4,
+          (first-read n earlier first later line (requests_in c.args.bytes.now n)
+          c.read_line.ensures.line (rw next.lines at known.3)),
+      left-next n earlier first later line c.read_line.ensures.line
+          (early_refusal_in c.args.bytes.now n) taken.accepted (rw next.lines at known.4),
     )
 
 pub returns-in_err-take-clause-early : goal.returns-in_err-take-clause-early
@@ -40,26 +39,24 @@ returns-in_err-take-clause-early c =
     let next = c.in-Some.ensures in
     let count : length earlier + 1 ≡ c.in-Some.number = ap (λ k. k + 1) known.2 ∙ sym next.number in
     let p = err_from_is_err_and c.from_residual.result c.from_residual.ensures.1 in
-    rw (p.1, p.2) (left-fails n earlier c.loop-number.lines.left c.in-Some.line.now
-    c.next.new.self.left line next.lines c.read_line.ensures.line
-    _ (early_refusal_in c.args.bytes.now n) c.in_err-take.field-0.0
+    rw (p.1, p.2) (left-fails n earlier c.in-Some.line.now c.next.new.self.left line
+    c.read_line.ensures.line _ (early_refusal_in c.args.bytes.now n) c.in_err-take.field-0.0
     (c.in_err-take.ensures.sure n earlier known.1 count) c.in_err-take.ensures.free
-    (c.in_err-take.ensures.err n earlier known.1 count) known.4)
+    (c.in_err-take.ensures.err n earlier known.1 count) (rw next.lines at known.4))
 
 pub returns : goal.returns
 returns c =
     let known = c.loop-number.invariant in
-    let left = c.loop-number.lines.left in
     let none = c.in_default.ensures.lines in
     record {
       given = subst (Gives c.finish.result)
-          (sym (ap (read_rest c.args.schedulers known.0) none) ∙ known.3)
+          (rw none at known.3)
           (c.finish.ensures.given c.args.schedulers known.0 known.1);
       count = subst (λ k. IfOk c.finish.result (λ sections. length sections.items ≡ k))
           known.1.schedulers c.finish.ensures.count;
       few = c.finish.ensures.few;
       asked = c.finish.ensures.asked;
-      early = left-ends c.args.schedulers known.0 left
-          (early_refusal_in c.args.bytes.now c.args.schedulers) c.finish.result none
-          (rw known.1.stage at c.finish.ensures.sure) known.4;
+      early = left-ends c.args.schedulers known.0
+          (early_refusal_in c.args.bytes.now c.args.schedulers) c.finish.result
+          (rw known.1.stage at c.finish.ensures.sure) (rw none at known.4);
     }

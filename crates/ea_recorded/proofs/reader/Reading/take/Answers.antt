@@ -57,7 +57,8 @@ returns-then-not-may_stand-clause-early c = λ left.
     let ws = words c.args.text.now in
     let l = line_of ws in
     early-refused _ (refusal r.schedulers c.args.number r.stage l)
-    (early_refusal r.schedulers (next r.stage l) (c.args.number + 1) left) (is_kept l) (fault.At c.args.number Syntax)
+    (early_refusal r.schedulers (next r.stage l) (c.args.number + 1) left) (is_kept l)
+    (fault.At c.args.number Syntax)
     (syntax-refused r.schedulers c.args.number r.stage l c.may_stand.result
     (said-stands ws _ r.stage c.read_own-line.ensures.line c.may_stand.result
     c.may_stand.ensures) c.if-not-may_stand.true)
@@ -80,7 +81,8 @@ returns-then-is_bad-clause-early c = λ left.
     let ws = words c.args.text.now in
     let l = line_of ws in
     early-refused _ (refusal r.schedulers c.args.number r.stage l)
-    (early_refusal r.schedulers (next r.stage l) (c.args.number + 1) left) (is_kept l) (fault.At c.args.number BadScheduler)
+    (early_refusal r.schedulers (next r.stage l) (c.args.number + 1) left) (is_kept l)
+    (fault.At c.args.number BadScheduler)
     (bad-refused r.schedulers c.args.number r.stage l c.may_stand.result
     (said-stands ws _ r.stage c.read_own-line.ensures.line c.may_stand.result
     c.may_stand.ensures) c.is_bad.result
