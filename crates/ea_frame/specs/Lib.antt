@@ -2,5 +2,4 @@ pub mod Answered
 pub mod Faults
 pub mod Inputs
 pub mod Language
-pub mod Lines
 pub mod Whys
