@@ -15,10 +15,10 @@ use Rattle.ea_trace.specs.Between.{in_section}
 use Rattle.ea_trace.specs.Language.{Answer, Earlier, LineWords, WordLines, is_held, lines_of}
 use Rattle.ea_trace.specs.Language.{no_stops, section_operations, sections, trace_of}
 use Rattle.ea_trace.specs.Lines.{both_words, line_of_words, name_in, pair, three_words, triple}
-use Rattle.ea_trace.specs.declared.fault.TraceFault.{TraceFault}
-use Rattle.ea_trace.specs.declared.fault.TraceFault.TheVariants as fault
 use Rattle.ea_trace.specs.declared.fault.Reason.{Reason}
 use Rattle.ea_trace.specs.declared.fault.Reason.TheVariants.{Syntax, NotHeld}
+use Rattle.ea_trace.specs.declared.fault.TraceFault.{TraceFault}
+use Rattle.ea_trace.specs.declared.fault.TraceFault.TheVariants as fault
 use Rattle.ea_contents.specs.declared.access.Access.{Access}
 use Rattle.ea_contents.specs.declared.access.Access.TheVariants.{Read, Write}
 use Rattle.ea_contents.specs.Model.{Script}

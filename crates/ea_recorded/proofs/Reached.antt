@@ -16,9 +16,9 @@ use Rattle.ea_model.specs.declared.trace.Trace.{Trace}
 use Rattle.ea_trace.specs.Language.{Answer, Gives, LineWords, WordLines}
 use Rattle.ea_trace.specs.Language.{trace_of}
 use Rattle.ea_trace.specs.Lines.{Said, line_of_words, scheduler_in}
+use Rattle.ea_trace.specs.declared.fault.Reason.TheVariants.{Syntax, BadScheduler}
 use Rattle.ea_trace.specs.declared.fault.TraceFault.{TraceFault}
 use Rattle.ea_trace.specs.declared.fault.TraceFault.TheVariants as fault
-use Rattle.ea_trace.specs.declared.fault.Reason.TheVariants.{Syntax, BadScheduler}
 use Rattle.ea_trace.specs.declared.lines.Line.TheVariants as said
 use Rattle.ea_recorded.specs.Input.{GivesInput}
 use Rattle.ea_recorded.specs.Language.{Asked, Told, addressed, after_first, answer_in, asked_by}

@@ -10,10 +10,10 @@ use Rattle.ea_model.specs.declared.units.TheConstants.{MAX_OPS}
 use Rattle.ea_segments.specs.declared.calls.Request.{Request}
 use Rattle.ea_segments.specs.declared.calls.Request.TheVariants.{Back, Take}
 use Rattle.ea_trace.specs.Language.{WordLines, lines_of}
-use Rattle.ea_trace.specs.declared.fault.TraceFault.{TraceFault}
-use Rattle.ea_trace.specs.declared.fault.TraceFault.TheVariants as fault
 use Rattle.ea_trace.specs.declared.fault.Reason.TheVariants.{Syntax, BadScheduler}
 use Rattle.ea_trace.specs.declared.fault.Reason.TheVariants.{NameReused, NotHeld, TooMany}
+use Rattle.ea_trace.specs.declared.fault.TraceFault.{TraceFault}
+use Rattle.ea_trace.specs.declared.fault.TraceFault.TheVariants as fault
 use Rattle.ea_super.specs.Lines.{line_of_words}
 use Rattle.ea_super.specs.declared.lines.Line.{Line}
 use Rattle.ea_super.specs.declared.lines.Line.TheVariants.{Asks, End, Section, Skipped, Super}

@@ -19,9 +19,9 @@ use Rattle.ea_trace.specs.Language.{stage_after, texts_after, trace_from, turns_
 use Rattle.ea_trace.specs.Lines.{Said, turns_in}
 use Rattle.ea_trace.specs.Says.{said, said_turns}
 use Rattle.ea_trace.specs.TurnLines.{Adds}
+use Rattle.ea_trace.specs.declared.fault.Reason.TheVariants.{NotHeld}
 use Rattle.ea_trace.specs.declared.fault.TraceFault.{TraceFault}
 use Rattle.ea_trace.specs.declared.fault.TraceFault.TheVariants as fault
-use Rattle.ea_trace.specs.declared.fault.Reason.TheVariants.{NotHeld}
 use Rattle.ea_trace.specs.declared.lines.Line.{Line}
 use Rattle.ea_trace.specs.declared.lines.Line.TheVariants as says
 use Rattle.ea_trace.specs.declared.stages.Stage.{Stage}

@@ -23,10 +23,10 @@ use Rattle.ea_model.specs.declared.trace.Stop as stops
 use Rattle.ea_model.specs.declared.trace.Turns as model
 use Rattle.ea_model.specs.declared.units.TheConstants.{MAX_ALL_TRIES, MAX_OPS, MAX_TURNS}
 use Rattle.ea_trace.specs.Lines.{Said, line_of_words}
-use Rattle.ea_trace.specs.declared.fault.TraceFault.{TraceFault}
-use Rattle.ea_trace.specs.declared.fault.TraceFault.TheVariants as fault
 use Rattle.ea_trace.specs.declared.fault.Reason.TheVariants.{Syntax, BadScheduler, NameReused}
 use Rattle.ea_trace.specs.declared.fault.Reason.TheVariants.{NotHeld, NotAddressed, TooMany}
+use Rattle.ea_trace.specs.declared.fault.TraceFault.{TraceFault}
+use Rattle.ea_trace.specs.declared.fault.TraceFault.TheVariants as fault
 use Rattle.ea_trace.specs.declared.lines.Line.TheVariants.{Skipped, Letter, Section, Operation}
 use Rattle.ea_trace.specs.declared.lines.Line.TheVariants.{Stop, Threads, Schedule, Turns}
 use Rattle.ea_trace.specs.declared.lines.Line.TheVariants.{Generate, End}

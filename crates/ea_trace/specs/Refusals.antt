@@ -1,10 +1,10 @@
 -- The number of a refused line, and the message about it.
 -- This simulator's own: the sources do not speak of it.
 use Rattle.std.specs.Prelude.{ℕ, List, Option, Some, None, codes}
-use Rattle.ea_trace.specs.declared.fault.TraceFault.{TraceFault}
-use Rattle.ea_trace.specs.declared.fault.TraceFault.TheVariants as fault
 use Rattle.ea_trace.specs.declared.fault.Reason.TheVariants.{Syntax, BadScheduler, NameReused}
 use Rattle.ea_trace.specs.declared.fault.Reason.TheVariants.{NotHeld, NotAddressed, TooMany}
+use Rattle.ea_trace.specs.declared.fault.TraceFault.{TraceFault}
+use Rattle.ea_trace.specs.declared.fault.TraceFault.TheVariants as fault
 
 -- the number of the refused line, from 1; None where no line alone is refused
 abbrev pub line_of : TraceFault → Option ℕ

@@ -12,9 +12,9 @@ use Rattle.ea_model.specs.declared.settings.Config.{Config}
 use Rattle.ea_model.specs.declared.settings.Letter.{Letter}
 use Rattle.ea_model.specs.declared.trace.Trace.{Trace}
 use Rattle.ea_trace.specs.Language.{LineWords, WordLines, lines_of}
+use Rattle.ea_trace.specs.declared.fault.Reason.TheVariants.{TooMany}
 use Rattle.ea_trace.specs.declared.fault.TraceFault.{TraceFault}
 use Rattle.ea_trace.specs.declared.fault.TraceFault.TheVariants as fault
-use Rattle.ea_trace.specs.declared.fault.Reason.TheVariants.{TooMany}
 use Rattle.ea_types.specs.Courses.{AreParts}
 use Rattle.ea_types.specs.Input.{AreGiven, AreUnstopped}
 use Rattle.ea_types.specs.Input.{AreCounted, GivesAll, HaveOneMode, HaveTexts}

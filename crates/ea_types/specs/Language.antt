@@ -14,9 +14,9 @@ use Rattle.ea_model.specs.declared.units.TheConstants.{MAX_MEGABYTES}
 use Rattle.ea_trace.specs.Language.{Answer, LineWords, WordLines, lines_of, trace_of}
 use Rattle.ea_trace.specs.Lines.{is_comment, keyword_in, kind_in, letter_in, letter_word}
 use Rattle.ea_trace.specs.Lines.{type_line}
+use Rattle.ea_trace.specs.declared.fault.Reason.TheVariants.{Syntax, TooMany}
 use Rattle.ea_trace.specs.declared.fault.TraceFault.{TraceFault}
 use Rattle.ea_trace.specs.declared.fault.TraceFault.TheVariants as fault
-use Rattle.ea_trace.specs.declared.fault.Reason.TheVariants.{Syntax, TooMany}
 use Rattle.ea_types.specs.declared.input.TheConstants.{MAX_TYPES}
 use Rattle.ea_trace.specs.declared.keywords.Keyword.{Keyword}
 use Rattle.ea_trace.specs.declared.keywords.Keyword.TheVariants.{Section, Stop, Threads, Schedule}

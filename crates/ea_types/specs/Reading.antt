@@ -6,9 +6,9 @@ use Rattle.ea_model.specs.Words.{LinesLeft, words}
 use Rattle.ea_model.specs.declared.settings.Letter.{Letter}
 use Rattle.ea_trace.specs.Language.{WordLines}
 use Rattle.ea_trace.specs.Lines.{type_line}
+use Rattle.ea_trace.specs.declared.fault.Reason.TheVariants.{Syntax}
 use Rattle.ea_trace.specs.declared.fault.TraceFault.{TraceFault}
 use Rattle.ea_trace.specs.declared.fault.TraceFault.TheVariants as fault
-use Rattle.ea_trace.specs.declared.fault.Reason.TheVariants.{Syntax}
 use Rattle.ea_types.specs.Language.{before_first, from_first, left_on, parts_of, projection}
 use Rattle.ea_types.specs.Language.{wrong_at}
 use Rattle.ea_types.specs.Readers.{HasRead, TypeLines, letters_of}

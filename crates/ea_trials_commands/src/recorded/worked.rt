@@ -3,9 +3,9 @@ ghost use Rattle.std.specs.Prelude.{◌≡◌, [], ◌∷◌, codes, Some, None,
 ghost use Rattle.ea_model.specs.Words.{words};
 ghost use Rattle.ea_model.specs.declared.operations.Op.TheVariants as op;
 ghost use Rattle.ea_model.specs.declared.settings.TheConstants.{NO_RULES};
-ghost use Rattle.ea_trace.specs.declared.fault.TraceFault.TheVariants as fault;
 ghost use Rattle.ea_trace.specs.declared.fault.Reason.TheVariants.{Syntax, BadScheduler};
 ghost use Rattle.ea_trace.specs.declared.fault.Reason.TheVariants.{NameReused, NotHeld, NotAddressed};
+ghost use Rattle.ea_trace.specs.declared.fault.TraceFault.TheVariants as fault;
 ghost use Rattle.ea_trials_commands.specs.Recorded.{order, refused, rules, texts, turns};
 
 /// Each scheduler has its own operations, and is told of each line whose it is.

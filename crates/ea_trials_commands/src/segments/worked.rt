@@ -3,9 +3,9 @@ ghost use Rattle.std.specs.Prelude.{◌≡◌, ◌++◌, [], ◌∷◌, codes, S
 ghost use Rattle.ea_segments.specs.Histories.{IsLegal};
 ghost use Rattle.ea_segments.specs.declared.calls.Request.TheVariants.{Back, Take};
 ghost use Rattle.ea_super.specs.Text.{book_text};
-ghost use Rattle.ea_trace.specs.declared.fault.TraceFault.TheVariants as fault;
 ghost use Rattle.ea_trace.specs.declared.fault.Reason.TheVariants.{Syntax, BadScheduler};
 ghost use Rattle.ea_trace.specs.declared.fault.Reason.TheVariants.{NameReused, NotHeld};
+ghost use Rattle.ea_trace.specs.declared.fault.TraceFault.TheVariants as fault;
 ghost use Rattle.ea_trials_commands.specs.Segments.{book, first_calls, race_calls, refused, sections};
 
 /// One scheduler, whose replies are determined.

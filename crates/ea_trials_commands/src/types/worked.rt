@@ -2,9 +2,9 @@
 ghost use Rattle.std.specs.Prelude.{◌≡◌, [], ◌∷◌, codes, Some, None};
 ghost use Rattle.ea_model.specs.declared.operations.Op.TheVariants as op;
 ghost use Rattle.ea_model.specs.declared.settings.Letter.TheVariants.{B, H};
-ghost use Rattle.ea_trace.specs.declared.fault.TraceFault.TheVariants as fault;
 ghost use Rattle.ea_trace.specs.declared.fault.Reason.TheVariants.{Syntax, BadScheduler};
 ghost use Rattle.ea_trace.specs.declared.fault.Reason.TheVariants.{NameReused, NotHeld, TooMany};
+ghost use Rattle.ea_trace.specs.declared.fault.TraceFault.TheVariants as fault;
 ghost use Rattle.ea_trials_commands.specs.Types.{parts, refused, texts, types};
 
 /// Each type has its own operations, and is told of each line whose it is.

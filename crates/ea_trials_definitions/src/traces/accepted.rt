@@ -5,8 +5,8 @@ ghost use Rattle.ea_model.specs.declared.operations.Op.TheVariants.{Take, Info, 
 ghost use Rattle.ea_model.specs.declared.settings.Letter.TheVariants.{B, D, H, T};
 ghost use Rattle.ea_model.specs.declared.trace.Mode.TheVariants.{Threads, Generated};
 ghost use Rattle.ea_trace.specs.Language.{trace};
-ghost use Rattle.ea_trace.specs.declared.fault.TraceFault.TheVariants as fault;
 ghost use Rattle.ea_trace.specs.declared.fault.Reason.TheVariants.{Syntax, BadScheduler};
+ghost use Rattle.ea_trace.specs.declared.fault.TraceFault.TheVariants as fault;
 ghost use Rattle.ea_trials_definitions.specs.Traces.{in_turns, is_stopped_trace, is_trace, refused};
 ghost use Rattle.ea_trials_definitions.specs.Traces.{refused_cuts, stop, turns};
 

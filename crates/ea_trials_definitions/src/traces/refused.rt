@@ -1,8 +1,8 @@
 //! Texts that are no traces, with the first refusal.
 ghost use Rattle.std.specs.Prelude.{◌≡◌, ◌++◌, codes, Some};
-ghost use Rattle.ea_trace.specs.declared.fault.TraceFault.TheVariants as fault;
 ghost use Rattle.ea_trace.specs.declared.fault.Reason.TheVariants.{Syntax, BadScheduler};
 ghost use Rattle.ea_trace.specs.declared.fault.Reason.TheVariants.{NameReused, NotHeld, NotAddressed, TooMany};
+ghost use Rattle.ea_trace.specs.declared.fault.TraceFault.TheVariants as fault;
 ghost use Rattle.ea_trials_definitions.specs.Traces.{refused, times};
 
 /// Names that are used again, and names that the section does not hold.

@@ -2,8 +2,8 @@ use Rattle.std.proofs.Common.{◌≡◌, ◌+◌, ◌∷◌, ◌∙◌, Some, ap
 use Rattle.std.specs.Prelude.{IfSome}
 use Rattle.std.proofs.lemmas.Result.{err_from_is_err_and}
 use Rattle.ea_model.specs.Words.{words}
-use Rattle.ea_trace.specs.declared.fault.TraceFault.TheVariants as fault
 use Rattle.ea_trace.specs.declared.fault.Reason.TheVariants.{Syntax, BadScheduler}
+use Rattle.ea_trace.specs.declared.fault.TraceFault.TheVariants as fault
 use Rattle.ea_recorded.specs.Language.{line_of, next, refusal}
 use Rattle.ea_recorded.specs.Reading.{early_left, early_refusal, is_kept}
 use Rattle.ea_recorded.proofs.Reached.{bad-gives, bad-refused, early-kept, early-refused, early-taken}
