@@ -15,11 +15,12 @@ loop-number-init c =
     let asked : Asked = recorded c.args.bytes.now n in
     let whole = early_refusal_in c.args.bytes.now n in
     let new = c.new-lines.ensures in
-    rw (new.left, new.number) record {
-      reads = c.new-reading.ensures.reads asked (lines_of c.args.bytes.now) refl;
-      fewer = omega (arith, new.few, ap length new.left);
-      early = subst (λ o. IfSome whole (λ f. o ≡ Some f))
-          (sym (c.new-reading.ensures.early (lines_of c.args.bytes.now))) (left-first whole);
+    record {
+      reads = rw (new.left, new.number)
+          (c.new-reading.ensures.reads asked (lines_of c.args.bytes.now) refl);
+      fewer = omega (arith, new.few, new.number);
+      early = rw (new.left, new.number) (subst (λ o. IfSome whole (λ f. o ≡ Some f))
+          (sym (c.new-reading.ensures.early (lines_of c.args.bytes.now))) (left-first whole));
     }
 
 pub returns-in_err-take-clause-given : goal.returns-in_err-take-clause-given

@@ -34,7 +34,7 @@ read : (c : After-are_many) → Reads c.args.config.schedulers c.as_slice-types.
     (whole_of c.as_slice-types.result.now (lines_of c.args.bytes.now) c.in-Some.first
     (map words c.first_unskipped.new.lines.left)) (c.loop-number.lines.number + 1) []
     c.loop-number.reading
-read c = rw c.in_default-3.ensures.lines at c.loop-number.invariant
+read c = rw c.in_default-3.ensures.lines at c.loop-number.invariant.reads
 
 pub loop-number-init : goal.loop-number-init
 loop-number-init c =
@@ -43,17 +43,20 @@ loop-number-init c =
     let types = c.as_slice-types.result.now in
     let after = map words c.first_unskipped.new.lines.left in
     let whole = whole_of types ls c.in-Some.first after in
-    subst (λ k. Reads c.args.config.schedulers types whole k after c.in_ok-reading.reading)
-    (omega (arith, f.at, c.in-Some.ensures.before))
-    (c.in_ok-reading.ensures (before_first ls) after whole (before-skipped ls)
-    (omega (arith, f.at))
-    (begins-with types ls (words c.in-Some.text.now) after c.in-Some.first f.from f.letters f.at))
+    record {
+      reads = subst
+          (λ k. Reads c.args.config.schedulers types whole k after c.in_ok-reading.reading)
+          (omega (arith, f.at, c.in-Some.ensures.before)) (c.in_ok-reading.ensures
+          (before_first ls) after whole (before-skipped ls) (omega (arith, f.at))
+          (begins-with types ls (words c.in-Some.text.now) after c.in-Some.first f.from f.letters
+          f.at));
+    }
 
 pub take-requires-clause-room : goal.take-requires-clause-room
 take-requires-clause-room c =
     let next = c.in-Some-3.ensures in
     each-room c.args.config.schedulers (c.loop-number.lines.number + 1)
-    c.as_slice-types.result.now _ _ c.loop-number.reading c.loop-number.invariant
+    c.as_slice-types.result.now _ _ c.loop-number.reading c.loop-number.invariant.reads
     (omega (arith, next.number, next.before, c.next.ensures.few))
 
 pub take-requires-clause-few : goal.take-requires-clause-few
@@ -68,14 +71,21 @@ returns-in_err-take-clause-given c =
     c.from_residual-in_err-take.ensures.1 in
     rw (p.1, p.2) (wrong-all c.args.config _ _ _ _ _ f c.in_err-take.field-0.0
     (c.in_err-take.ensures.err c.args.config.schedulers _ (map words c.next.new.self.left)
-    (rw (next.lines, sym next.number) at c.loop-number.invariant)))
+    (rw (next.lines, sym next.number) at c.loop-number.invariant.reads)))
 
 pub loop-number-preserved : goal.loop-number-preserved
 loop-number-preserved c =
     let next = c.in-Some-3.ensures in
-    rw next.before (c.in_ok-take.ensures.ok c.args.config.schedulers _
-    (map words c.next.new.self.left)
-    (rw (next.lines, sym next.number) at c.loop-number.invariant))
+    let n = c.args.config.schedulers in
+    let types = c.as_slice-types.result.now in
+    let whole = whole_of types (lines_of c.args.bytes.now) c.in-Some.first
+    (map words c.first_unskipped.new.lines.left) in
+    let later = map words c.next.new.self.left in
+    record {
+      reads = subst (λ k. Reads n types whole (k + 1) later c.take.new.self) (sym next.before)
+          (c.in_ok-take.ensures.ok n whole later
+          (rw (next.lines, sym next.number) at c.loop-number.invariant.reads));
+    }
 
 pub are_many-requires : goal.are_many-requires
 are_many-requires c = few-in (words c.in-Some.text.now) c.as_slice-types.result.now
