@@ -131,7 +131,7 @@ fn next_line<'a>(lines: &mut Lines<'a>) -> Option<Line<&'a [u8]>>
         FirstSays (said line) (map words lines.old.left) (map words lines.new.left)) }
     ensures range { IfSome result (λ line. InRange (said line)) }
     ensures number { IfSome result (λ _. lines.new.number ≡ lines.old.number + 1) }
-    ensures few { lines.new.number < 2 ^ 32 }
+    ensures few { IfSome result (λ _. lines.new.number < 2 ^ 32) }
     ensures end { result ≡ None → lines.old.left ≡ [] }
 {
     if let Some((op, rest)) = first_operation(lines.text()?) {
