@@ -26,18 +26,16 @@ fn decide_multi(settings: Settings, old: u32, fresh: u32, behind: u32) -> Decisi
         Decision::Move
     } else if fresh == old {
         Decision::Stay
-    } else if fresh > old {
-        if u64::from(fresh) <= u64::from(old) + u64::from(behind) {
-            Decision::GrowHere
-        } else {
-            Decision::Move
-        }
-    } else if old - fresh < MIN_BLOCK {
+    } else if fresh < old && old - fresh < MIN_BLOCK {
         Decision::Stay
-    } else if is_above(old - fresh, settings.rmbcmt, old) {
+    } else if fresh < old && is_above(old - fresh, settings.rmbcmt, old) {
         Decision::Move
-    } else {
+    } else if fresh < old {
         Decision::ShrinkHere
+    } else if u64::from(fresh) <= u64::from(old) + u64::from(behind) {
+        Decision::GrowHere
+    } else {
+        Decision::Move
     }
 }
 
@@ -62,14 +60,13 @@ fn decide_single(settings: Settings, old: u32, fresh: u32, units: u32) -> Decisi
         return Decision::Move;
     }
     let tail = units - HEADER_UNITS - fresh;
-    if !settings.is_above_threshold(fresh) {
-        if is_at_least(tail, settings.rsbcmt, units) {
-            return Decision::Move;
-        }
-        return decide_in_place(old, fresh);
+    let alone = settings.is_above_threshold(fresh);
+    if !alone && is_at_least(tail, settings.rsbcmt, units) {
+        return Decision::Move;
     }
     let pages = least_pages(fresh);
-    if fresh < old
+    if alone
+        && fresh < old
         && pages < pages_for(units)
         && tail >= settings.asbcst
         && is_at_least(tail, settings.rsbcst, units)
