@@ -3,7 +3,7 @@ use Rattle.std.proofs.Common.{zero, suc, ◌≡◌, ℕ, ◌+◌, ◌-◌, ◌<�
 use Rattle.std.proofs.Common.{pow_mono, pow-suc, arith}
 use Rattle.std.specs.Prelude.{◌^◌, ◌*◌, nat_lt, if◌then◌else◌, min}
 use Rattle.std.proofs.lemmas.Bool.{cases_lt}
-use Rattle.ea_model.specs.GoodFit.{bin_of, powers}
+use Rattle.ea_model.specs.GoodFit.{SHARED, SHARED_POWER, bin_of, powers}
 use Rattle.ea_model.proofs.Powers.{counted, uncounted, powers-none, bin_of-large}
 
 -- r is the exponent of the greatest power of two that is at most the size
@@ -35,8 +35,8 @@ powers-within size a (suc n) =
       | inr le ↦ let more = powers-within size (a + 1) n in omega (arith, counted size a n le)
     ]
 
-at_least_six : (size r : ℕ) → 64 ≤ size → size < 2 * 2 ^ r → 6 ≤ r
-at_least_six size r le high =
+pub shared-power : (size r : ℕ) → SHARED ≤ size → size < 2 * 2 ^ r → SHARED_POWER ≤ r
+shared-power size r le high =
     elim (cases_lt r 6) [
       | inl lt ↦
           let p : 2 ^ r ≤ 32 = pow_mono {i = r} {j = 5} (omega arith) in
@@ -44,14 +44,14 @@ at_least_six size r le high =
       | inr ge ↦ ge
     ]
 
-least_top : (r : ℕ) → 6 ≤ r → r < 32 → 63 + min 26 (r + 1 - 6) ≡ 58 + r
+least_top : (r : ℕ) → 6 ≤ r → r < 32 → 63 + min 26 (r + 1 - 6) ≡ 64 + (r - 6)
 least_top r six top = omega arith
 
-pub bin_of-top : (size r : ℕ) → 64 ≤ size → 2 ^ r ≤ size → size < 2 * 2 ^ r → r < 32
-    → bin_of size ≡ 58 + r
+pub bin_of-top : (size r : ℕ) → SHARED ≤ size → 2 ^ r ≤ size → size < 2 * 2 ^ r → r < 32
+    → bin_of size ≡ SHARED + (r - SHARED_POWER)
 bin_of-top size r le low high top = sym (bin_of-large size le)
     ∙ ap (λ k. 63 + k) (powers-top size r 6 26 low high)
-    ∙ least_top r (at_least_six size r le high) top
+    ∙ least_top r (shared-power size r le high) top
 
 either_below : (size k : ℕ) → k ≤ 26 → (if nat_lt size 64 then size else 63 + k) < 90
 either_below size k le = grind arith

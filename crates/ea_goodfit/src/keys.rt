@@ -10,15 +10,19 @@ use crate::fits::Fit;
 use crate::gaps::BinnedGap;
 
 /// The least size, in units, that shares its bin with others.
-const SHARED: u32 = 64;
+const SHARED: u32 = 1 << SHARED_POWER;
 
-/// How many bins there are.
-pub const BINS: u64 = 90;
+/// The power of two that it is.
+const SHARED_POWER: u32 = 6;
+
+/// How many bins there are: one for each size below it, and one for each power of two from it on.
+pub const BINS: u32 = SHARED + (u32::BITS - SHARED_POWER);
 
 /// How many keys each bin or size has: one for each address.
 pub const SPAN: u64 = 4_294_967_296;
 
-/// The bin of a size: the size itself below 64, and 58 + k for the sizes from 2^k on.
+/// The bin of a size: the size itself, where it shares it with no other, and else by the greatest
+/// power of two that is at most the size.
 pub fn bin_of(size: u32) -> u32
     ensures bin { result ≡ bin_of size }
     ensures within { result < BINS }
@@ -26,7 +30,7 @@ pub fn bin_of(size: u32) -> u32
     if size < SHARED {
         return size;
     }
-    58 + size.ilog2()
+    SHARED + (size.ilog2() - SHARED_POWER)
 }
 
 /// The bound that all keys are below.
@@ -34,7 +38,7 @@ pub fn width(fit: Fit) -> u64
     ensures { result ≡ width_of fit }
 {
     match fit {
-        Fit::Good => BINS * SPAN,
+        Fit::Good => u64::from(BINS) * SPAN,
         Fit::Best => u64::from(u32::MAX) * SPAN,
         Fit::AddressOrderBest => u64::from(u32::MAX) * SPAN,
     }
