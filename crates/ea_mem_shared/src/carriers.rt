@@ -152,6 +152,21 @@ impl<C: Carried + Drop> Places<C> {
         self.replace(number, place);
     }
 
+    /// The carrier is in the pool of an instance, with its content, whose largest gap has that many
+    /// units.
+    pub fn pool(&mut self, number: u32, instance: u32, largest: u32, content: C)
+        requires { number < length self.old }
+        ensures { self.new
+            ≡ set self.old number (owners.Pooled instance largest (C.content content)) }
+    {
+        let place = Place::Pooled {
+            instance,
+            largest,
+            content,
+        };
+        self.replace(number, place);
+    }
+
     /// Takes the content of a pooled carrier, if its owner word is still the one seen, and leaves
     /// another place.
     pub fn try_take(&mut self, number: u32, seen: OwnerWord, left: Place<C>) -> Tried<C>

@@ -184,14 +184,7 @@ impl<C: Carried + Drop> Shared for MemShared<C> {
     }
 
     fn settle_pooled(&mut self, me: u32, carrier: u32, content: C, largest: u32) {
-        self.places.put(
-            carrier,
-            Place::Pooled {
-                instance: me,
-                largest,
-                content,
-            },
-        );
+        self.places.pool(carrier, me, largest, content);
     }
 
     fn settle_employed(&mut self, me: u32, carrier: u32) {
@@ -199,14 +192,7 @@ impl<C: Carried + Drop> Shared for MemShared<C> {
     }
 
     fn abandon(&mut self, me: u32, carrier: u32, content: C, largest: u32) {
-        self.places.put(
-            carrier,
-            Place::Pooled {
-                instance: me,
-                largest,
-                content,
-            },
-        );
+        self.places.pool(carrier, me, largest, content);
     }
 
     fn fetch_try(&mut self, me: u32, carrier: u32, seen: OwnerWord) -> Tried<C> {

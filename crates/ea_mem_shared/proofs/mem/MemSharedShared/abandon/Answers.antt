@@ -5,4 +5,4 @@ pub returns-clause-row : goal.returns-clause-row
 returns-clause-row g c = did-abandon _ _ _ _ _ _ c.self.view_is c.self.invariant.2
     c.requires.migrates c.args.carrier c.requires.carrier _
     (g.C.Carried.content c.args.content) c.requires.content.number c.args.largest
-    c.requires.content.is c.put.ensures
+    c.requires.content.is c.pool.ensures
