@@ -1,19 +1,49 @@
 //! The lines of a log.
-ghost use Rattle.std.specs.Prelude.{◌≡◌, ◌+◌, ◌<◌, ◌≤◌, [], ◌∷◌, ◌++◌, All, OnOk, Some};
+ghost use Rattle.std.specs.Prelude.{◌≡◌, ◌+◌, ◌*◌, ◌<◌, ◌≤◌, [], ◌∷◌, ◌++◌, All, OnOk, Some};
 ghost use Rattle.std.specs.Prelude.{codes, decimal, drop, length, slice_get};
 ghost use Rattle.ea_model.specs.declared.entries.Entry.TheVariants.{Info};
 ghost use Rattle.std.specs.List.{flat_map};
 ghost use Rattle.ea_model.specs.Entries.{IsWithin, told};
 ghost use Rattle.ea_report.specs.Printed.{spaced};
 ghost use Rattle.ea_report.specs.Text.{cause_text, fail_words, report_text, entry_text};
-ghost use Rattle.ea_report.specs.declared.tails.TheConstants.{LONGEST};
+ghost use Rattle.ea_report.specs.declared.entries.TheConstants.{CAUSE, FAIL, FIGURE};
+ghost use Rattle.ea_report.specs.declared.tails.TheConstants.{LINE, LONGEST, NUMBER, SUM};
 
-use crate::tails::Tail;
+use crate::tails::{NUMBER, Tail};
 use ea_model::{Entry, List, Log, NoCarrier, OutOfMemory, Place, Report, Reports, Triple};
+
+/// Puts pieces in front, which are written forwards, as the text is read, and put from the last to
+/// the first. A literal is a text, `.f(x)` a call of the tail, `f(x)` one of a function with the
+/// tail, and what is none of these is a number, which stands after a space.
+macro_rules! put {
+    (@ $tail:ident [$($calls:tt)*]) => {{ $($calls)* }};
+    (@ $tail:ident [$($calls:tt)*] $text:literal $(, $($rest:tt)*)?) => {
+        put!(@ $tail [$tail.text($text); $($calls)*] $($($rest)*)?)
+    };
+    (@ $tail:ident [$($calls:tt)*] .$call:ident($($args:expr),*) $(, $($rest:tt)*)?) => {
+        put!(@ $tail [$tail.$call($($args),*); $($calls)*] $($($rest)*)?)
+    };
+    (@ $tail:ident [$($calls:tt)*] $call:ident($($args:expr),*) $(, $($rest:tt)*)?) => {
+        put!(@ $tail [$call($tail, $($args),*); $($calls)*] $($($rest)*)?)
+    };
+    (@ $tail:ident [$($calls:tt)*] $number:expr $(, $($rest:tt)*)?) => {
+        put!(@ $tail [$tail.number($number); $($calls)*] $($($rest)*)?)
+    };
+    ($tail:ident; $($pieces:tt)*) => { put!(@ $tail [] $($pieces)*) };
+}
+
+/// The most letters of the word of a cause.
+const CAUSE: usize = 7;
+
+/// The most letters of the word of a figure, with the space in front of it.
+const FIGURE: usize = 14;
+
+/// The most bytes of what stands after the names of an operation that found no place.
+const FAIL: usize = 18 + CAUSE + 2 * NUMBER;
 
 fn cause_word(cause: NoCarrier) -> &'static str
     ensures word { result.now ≡ cause_text cause }
-    ensures short { length result.now ≤ 7 }
+    ensures short { length result.now ≤ CAUSE }
 {
     match cause {
         NoCarrier::Numbers => "numbers",
@@ -21,74 +51,63 @@ fn cause_word(cause: NoCarrier) -> &'static str
     }
 }
 
-/// Puts the numbers of a figure in front, and before them the word that says what they count, with
-/// its space.
+/// Puts the word in front that says what a figure counts, with its space, and its numbers.
 fn put_figure(tail: &mut Tail, word: &str, figure: Triple)
-    requires word { length word.now ≤ 14 }
-    requires room { length tail.old + 77 ≤ LONGEST }
+    requires word { length word.now ≤ FIGURE }
+    requires room { length tail.old + FIGURE + 3 * SUM ≤ LONGEST }
     ensures bytes { tail.new ≡ word.now ++ spaced
         (decimal figure.now ∷ decimal figure.last ∷ decimal figure.ever ∷ []) tail.old }
-    ensures len { length tail.new ≤ length tail.old + 63 + length word.now }
+    ensures len { length tail.new ≤ length tail.old + length word.now + 3 * SUM }
 {
-    tail.sum(figure.ever);
-    tail.sum(figure.last);
-    tail.sum(figure.now);
-    tail.text(word);
+    put!(tail; .text(word), .sum(figure.now), .sum(figure.last), .sum(figure.ever))
 }
 
 /// Puts the allocator information of one class of carriers in front, whose word has four letters.
 fn put_report(tail: &mut Tail, class: &str, report: &Report)
     requires class { length class.now ≡ 4 }
-    requires room { length tail.old + 304 ≤ LONGEST }
+    requires room { length tail.old + LINE ≤ LONGEST }
     ensures bytes { tail.new ≡ report_text class.now report.now ++ tail.old }
-    ensures len { length tail.new ≤ length tail.old + 304 }
+    ensures len { length tail.new ≤ length tail.old + LINE }
 {
-    tail.text("\n");
-    put_figure(tail, " carriers_size", report.carriers_size);
-    put_figure(tail, " carriers", report.carriers);
-    put_figure(tail, " blocks_size", report.blocks_size);
-    put_figure(tail, " blocks", report.blocks);
-    tail.text(class);
-    tail.text("info ");
+    put!(
+        tail;
+        "info ",
+        .text(class),
+        put_figure(" blocks", report.blocks),
+        put_figure(" blocks_size", report.blocks_size),
+        put_figure(" carriers", report.carriers),
+        put_figure(" carriers_size", report.carriers_size),
+        "\n"
+    )
 }
 
 /// Puts a place in front.
 #[inline(always)]
 fn put_place(tail: &mut Tail, place: Place)
-    requires { length tail.old + 33 ≤ LONGEST }
+    requires { length tail.old + 3 * NUMBER ≤ LONGEST }
     ensures bytes { tail.new ≡ spaced
         (decimal place.carrier ∷ decimal place.offset ∷ decimal place.size ∷ []) tail.old }
-    ensures len { length tail.new ≤ length tail.old + 33 }
+    ensures len { length tail.new ≤ length tail.old + 3 * NUMBER }
 {
-    tail.number(place.size);
-    tail.number(place.offset);
-    tail.number(place.carrier);
+    put!(tail; place.carrier, place.offset, place.size)
 }
 
 /// Puts the names and the place of a reallocation in front.
 fn put_realloc(tail: &mut Tail, old: u32, fresh: u32, place: Place)
-    requires { length tail.old + 62 ≤ LONGEST }
+    requires { length tail.old + LINE ≤ LONGEST }
     ensures { tail.new ≡ codes "realloc" ++ spaced (decimal old ∷ decimal fresh
         ∷ decimal place.carrier ∷ decimal place.offset ∷ decimal place.size ∷ []) tail.old }
 {
-    put_place(tail, place);
-    tail.number(fresh);
-    tail.number(old);
-    tail.text("realloc");
+    put!(tail; "realloc", old, fresh, put_place(place))
 }
 
 /// Puts in front what stands after the names of an operation that found no place.
 fn put_fail(tail: &mut Tail, need: u32, looked: u32, why: NoCarrier)
-    requires { length tail.old + 48 ≤ LONGEST }
+    requires { length tail.old + FAIL ≤ LONGEST }
     ensures bytes { tail.new ≡ spaced (fail_words need looked why) tail.old }
-    ensures len { length tail.new ≤ length tail.old + 48 }
+    ensures len { length tail.new ≤ length tail.old + FAIL }
 {
-    tail.text(cause_word(why));
-    tail.text(" ");
-    tail.number(looked);
-    tail.text(" looked");
-    tail.number(need);
-    tail.text(" fail need");
+    put!(tail; " fail need", need, " looked", looked, " ", .text(cause_word(why)))
 }
 
 /// Makes the two lines of the allocator information.
@@ -96,8 +115,7 @@ fn put_info(tail: &mut Tail, reports: &Reports)
     requires { tail.old ≡ [] }
     ensures { tail.new ≡ entry_text (Info reports.now) }
 {
-    put_report(tail, "sbcs", &reports.sbcs);
-    put_report(tail, "mbcs", &reports.mbcs);
+    put!(tail; put_report("mbcs", &reports.mbcs), put_report("sbcs", &reports.sbcs))
 }
 
 /// The reports at a place among these.
@@ -116,109 +134,43 @@ fn put_entry(tail: &mut Tail, entry: &Entry<usize>, reports: &[Reports])
     ensures { tail.new ≡ entry_text (told reports.now entry.now) }
 {
     match *entry {
-        Entry::Alloc { name, place } => {
-            tail.text("\n");
-            put_place(tail, place);
-            tail.number(name);
-            tail.text("alloc");
-        }
+        Entry::Alloc { name, place } => put!(tail; "alloc", name, put_place(place), "\n"),
         Entry::AllocFail {
             name,
             need,
             looked,
             why,
-        } => {
-            tail.text("\n");
-            put_fail(tail, need, looked, why);
-            tail.number(name);
-            tail.text("alloc");
-        }
-        Entry::Free { name } => {
-            tail.text(" done\n");
-            tail.number(name);
-            tail.text("free");
-        }
-        Entry::FreeQueued { name, to } => {
-            tail.text("\n");
-            tail.number(to);
-            tail.text(" queued");
-            tail.number(name);
-            tail.text("free");
-        }
-        Entry::FreeSkipped { name } => {
-            tail.text(" skipped\n");
-            tail.number(name);
-            tail.text("free");
-        }
+        } => put!(tail; "alloc", name, put_fail(need, looked, why), "\n"),
+        Entry::Free { name } => put!(tail; "free", name, " done\n"),
+        Entry::FreeQueued { name, to } => put!(tail; "free", name, " queued", to, "\n"),
+        Entry::FreeSkipped { name } => put!(tail; "free", name, " skipped\n"),
         Entry::ReallocHere { old, fresh, place } => {
-            tail.text(" here\n");
-            put_realloc(tail, old, fresh, place);
+            put!(tail; put_realloc(old, fresh, place), " here\n")
         }
         Entry::ReallocMoved { old, fresh, place } => {
-            tail.text(" moved done\n");
-            put_realloc(tail, old, fresh, place);
+            put!(tail; put_realloc(old, fresh, place), " moved done\n")
         }
         Entry::ReallocQueued {
             old,
             fresh,
             place,
             to,
-        } => {
-            tail.text("\n");
-            tail.number(to);
-            tail.text(" moved queued");
-            put_realloc(tail, old, fresh, place);
-        }
+        } => put!(tail; put_realloc(old, fresh, place), " moved queued", to, "\n"),
         Entry::ReallocFail {
             old,
             fresh,
             need,
             looked,
             why,
-        } => {
-            tail.text("\n");
-            put_fail(tail, need, looked, why);
-            tail.number(fresh);
-            tail.number(old);
-            tail.text("realloc");
-        }
-        Entry::ReallocSkipped { old, fresh } => {
-            tail.text(" skipped\n");
-            tail.number(fresh);
-            tail.number(old);
-            tail.text("realloc");
-        }
-        Entry::Give { name, to } => {
-            tail.text("\n");
-            tail.number(to);
-            tail.number(name);
-            tail.text("give");
-        }
-        Entry::GiveSkipped { name, to } => {
-            tail.text(" skipped\n");
-            tail.number(to);
-            tail.number(name);
-            tail.text("give");
-        }
-        Entry::Take { name } => {
-            tail.text(" got\n");
-            tail.number(name);
-            tail.text("take");
-        }
-        Entry::TakeAbsent { name, tries } => {
-            tail.text("\n");
-            tail.number(tries);
-            tail.text(" absent");
-            tail.number(name);
-            tail.text("take");
-        }
+        } => put!(tail; "realloc", old, fresh, put_fail(need, looked, why), "\n"),
+        Entry::ReallocSkipped { old, fresh } => put!(tail; "realloc", old, fresh, " skipped\n"),
+        Entry::Give { name, to } => put!(tail; "give", name, to, "\n"),
+        Entry::GiveSkipped { name, to } => put!(tail; "give", name, to, " skipped\n"),
+        Entry::Take { name } => put!(tail; "take", name, " got\n"),
+        Entry::TakeAbsent { name, tries } => put!(tail; "take", name, " absent", tries, "\n"),
         Entry::Info { reports: at } => put_info(tail, reports_at(reports, at)),
         Entry::Idle => tail.text("idle\n"),
-        Entry::Stopped { steps } => {
-            tail.text("\n");
-            tail.number(steps);
-            tail.text("stopped");
-        }
+        Entry::Stopped { steps } => put!(tail; "stopped", steps, "\n"),
     }
 }
 

@@ -1,13 +1,21 @@
 //! The tail of a text, which is made from its last byte to its first.
 ghost use Rattle.std.specs.Prelude.{◌≡◌, ◌+◌, ◌≤◌, [], ◌∷◌, ◌++◌, length, drop, decimal};
-ghost use Rattle.ea_report.specs.declared.tails.TheConstants.{LONGEST};
+ghost use Rattle.ea_report.specs.declared.tails.TheConstants.{LONGEST, NUMBER, SUM};
 
 use itoa::write_digits;
 use std::marker::Model;
 
-/// For how many bytes a tail has room: the two lines of the allocator information with 24 numbers
-/// of 64 bits have that many.
-pub const LONGEST: usize = 608;
+/// The most bytes of a number of 32 bits, with the space in front of it.
+pub const NUMBER: usize = 11;
+
+/// The most bytes of a number of 64 bits, with the space in front of it.
+pub const SUM: usize = 21;
+
+/// The most bytes of a line: that of the allocator information has 52 of words and 12 sums.
+pub const LINE: usize = 52 + 12 * SUM;
+
+/// For how many bytes a tail has room: the two lines of the allocator information have that many.
+pub const LONGEST: usize = 2 * LINE;
 
 /// The last bytes of a text. It grows at its front, since the digits of a number are found from the
 /// last to the first: so each byte is written once, where it stays. Contracts see it as its bytes.
@@ -66,9 +74,9 @@ impl Tail {
     /// Puts a number in front, after a space.
     #[inline(always)]
     pub fn number(&mut self, n: u32)
-        requires { length self.old + 11 ≤ LONGEST }
+        requires { length self.old + NUMBER ≤ LONGEST }
         ensures bytes { self.new ≡ 32 ∷ decimal n ++ self.old }
-        ensures len { length self.new ≤ length self.old + 11 }
+        ensures len { length self.new ≤ length self.old + NUMBER }
     {
         self.digits(u64::from(n));
         self.text(" ");
@@ -77,9 +85,9 @@ impl Tail {
     /// Puts a number that may pass 32 bits in front, after a space.
     #[inline(always)]
     pub fn sum(&mut self, n: u64)
-        requires { length self.old + 21 ≤ LONGEST }
+        requires { length self.old + SUM ≤ LONGEST }
         ensures bytes { self.new ≡ 32 ∷ decimal n ++ self.old }
-        ensures len { length self.new ≤ length self.old + 21 }
+        ensures len { length self.new ≤ length self.old + SUM }
     {
         self.digits(n);
         self.text(" ");
