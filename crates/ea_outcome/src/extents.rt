@@ -9,7 +9,7 @@ ghost use Rattle.ea_outcome.specs.Extents as extents;
 ghost use Rattle.ea_outcome.specs.Finding.{present_with};
 ghost use Rattle.ea_outcome.specs.Resting.{Stand, carrier_of};
 
-use crate::finding::find;
+use crate::finding::AtRest;
 use crate::found::Found;
 use ea_mbc::Mbc;
 use ea_model::{Config, Extent, PAGE_UNITS, Spot, Trace};
@@ -30,23 +30,21 @@ fn extent_in(carrier: &Found<'_>, spot: Spot) -> Option<Extent>
     })
 }
 
-/// The extent of the block at the spot, if its carrier is there and a block begins there.
-fn extent_at<H: Rested<Content = Mbc>>(
-    schedulers: &[Scheduler<'_>],
-    shared: &H,
-    migrates: bool,
-    spot: Spot,
-) -> Option<Extent>
-    requires migrates { migrates ≡ (H.shared shared.now).migrates }
-    requires number { IsCarrier (H.shared shared.now).schedulers spot.carrier }
-    requires fits { IfSome (extents.extent_at spot
-        (carrier_of migrates (H.shared shared.now).places schedulers.now spot.carrier))
-        (λ r. r.first < 2 ^ 32) }
-    ensures { result ≡ extents.extent_at spot
-        (carrier_of migrates (H.shared shared.now).places schedulers.now spot.carrier) }
-{
-    let carrier = find(schedulers, shared, migrates, spot.carrier)?;
-    extent_in(&carrier, spot)
+impl<'a, 't, H: Rested<Content = Mbc>> AtRest<'a, 't, H> {
+    /// The extent of the block at the spot, if its carrier is there and a block begins there.
+    fn extent_at(&self, spot: Spot) -> Option<Extent>
+        requires number { IsCarrier (H.shared self.now.shared.now).schedulers spot.carrier }
+        requires fits { IfSome (extents.extent_at spot
+            (carrier_of self.now.migrates
+            (H.shared self.now.shared.now).places self.now.schedulers.now spot.carrier))
+            (λ r. r.first < 2 ^ 32) }
+        ensures { result ≡ extents.extent_at spot
+            (carrier_of self.now.migrates
+            (H.shared self.now.shared.now).places self.now.schedulers.now spot.carrier) }
+    {
+        let carrier = self.find(spot.carrier)?;
+        extent_in(&carrier, spot)
+    }
 }
 
 /// Where the block of a held or a given name lies, which begins at the spot: the units that it has
@@ -70,7 +68,12 @@ pub fn extent_of<H: Rested<Content = Mbc>>(
     ensures { LiesWhere config trace.now schedulers.now (H.shared shared.now).places
         (H.shared shared.now).named spot result }
 {
-    match extent_at(schedulers, shared, migrates(config, trace), spot) {
+    let rest = AtRest {
+        schedulers,
+        shared,
+        migrates: migrates(config, trace),
+    };
+    match rest.extent_at(spot) {
         Some(extent) => extent,
         None => unreachable!(),
     }

@@ -13,6 +13,23 @@ use ea_mbc::Mbc;
 use ea_model::{Standing, owner_of};
 use ea_sched::Scheduler;
 use ea_shared::Rested;
+use std::alloc::AllocError;
+
+/// Schedulers and what they share, where nobody steps any more, and whether carriers migrate.
+pub(crate) struct AtRest<'a, 't, H: Rested<Content = Mbc>> {
+    pub(crate) schedulers: &'a [Scheduler<'t>],
+    pub(crate) shared: &'a H,
+    pub(crate) migrates: bool,
+    ghost migrates_so: { migrates ≡ (H.shared shared.now).migrates },
+}
+
+impl<'a, 't, H: Rested<Content = Mbc>> Clone for AtRest<'a, 't, H> {
+    fn clone(&self) -> Result<Self, AllocError> {
+        Ok(*self)
+    }
+}
+
+impl<'a, 't, H: Rested<Content = Mbc>> Copy for AtRest<'a, 't, H> {}
 
 /// The scheduler with that number, which is at least 1.
 fn scheduler_at<'a, 't>(schedulers: &'a [Scheduler<'t>], number: u32) -> Option<&'a Scheduler<'t>>
@@ -70,25 +87,43 @@ fn busy_at<'a>(schedulers: &'a [Scheduler<'_>], number: u32, employer: u32) -> O
     }
 }
 
-/// The carrier with that number that is at home, if it is.
-fn home_at<'a, H: Rested<Content = Mbc>>(
-    shared: &'a H,
-    number: u32,
-    word: Standing,
-    employer: u32,
-) -> Option<Found<'a>>
-    requires migrates { (H.shared shared.now).migrates ≡ true }
-    requires number { IsCarrier (H.shared shared.now).schedulers number }
-    ensures { option_and_then (present_with number) result
-        ≡ found word employer (home_of ((H.shared shared.now).places number)) }
-{
-    match shared.home(number) {
-        Some(carrier) => Some(Found {
-            whose: Whose::Home { carrier },
-            word,
-            employer,
-        }),
-        None => None,
+impl<'a, 't, H: Rested<Content = Mbc>> AtRest<'a, 't, H> {
+    /// The carrier with that number that is at home, if it is.
+    fn home_at(&self, number: u32, word: Standing, employer: u32) -> Option<Found<'a>>
+        requires migrates { self.now.migrates ≡ true }
+        requires number { IsCarrier (H.shared self.now.shared.now).schedulers number }
+        ensures { option_and_then (present_with number) result
+            ≡ found word employer (home_of ((H.shared self.now.shared.now).places number)) }
+    {
+        match self.shared.home(number) {
+            Some(carrier) => Some(Found {
+                whose: Whose::Home { carrier },
+                word,
+                employer,
+            }),
+            None => None,
+        }
+    }
+
+    /// The carrier with that number, where it is, if it is there.
+    pub(crate) fn find(&self, number: u32) -> Option<Found<'a>>
+        requires number { IsCarrier (H.shared self.now.shared.now).schedulers number }
+        ensures { option_and_then (present_with number) result
+            ≡ carrier_of self.now.migrates
+            (H.shared self.now.shared.now).places self.now.schedulers.now number }
+    {
+        if !self.migrates {
+            return employed_at(self.schedulers, number, owner_of(number));
+        }
+        match self.shared.word(number) {
+            OwnerWord::Absent => None,
+            OwnerWord::Employed { instance } => employed_at(self.schedulers, number, instance),
+            OwnerWord::Busy { instance } => busy_at(self.schedulers, number, instance),
+            OwnerWord::Pooled { instance, .. } => self.home_at(number, Standing::Pooled, instance),
+            OwnerWord::Returning { instance } => {
+                self.home_at(number, Standing::Returning, instance)
+            }
+        }
     }
 }
 
@@ -105,16 +140,10 @@ pub fn find<'a, H: Rested<Content = Mbc>>(
     ensures { option_and_then (present_with number) result
         ≡ carrier_of migrates (H.shared shared.now).places schedulers.now number }
 {
-    if !migrates {
-        return employed_at(schedulers, number, owner_of(number));
-    }
-    match shared.word(number) {
-        OwnerWord::Absent => None,
-        OwnerWord::Employed { instance } => employed_at(schedulers, number, instance),
-        OwnerWord::Busy { instance } => busy_at(schedulers, number, instance),
-        OwnerWord::Pooled { instance, .. } => home_at(shared, number, Standing::Pooled, instance),
-        OwnerWord::Returning { instance } => {
-            home_at(shared, number, Standing::Returning, instance)
-        }
-    }
+    let rest = AtRest {
+        schedulers,
+        shared,
+        migrates,
+    };
+    rest.find(number)
 }

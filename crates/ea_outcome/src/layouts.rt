@@ -9,7 +9,7 @@ ghost use Rattle.ea_shared.specs.Carriers.{IsCarrier};
 ghost use Rattle.ea_outcome.specs.Layouts.{AreLayouts, first_layouts};
 ghost use Rattle.ea_outcome.specs.Resting.{Stand, carrier_of};
 
-use crate::finding::find;
+use crate::finding::AtRest;
 use ea_instance::Layout;
 use ea_mbc::Mbc;
 use ea_model::{Config, List, NUMBERS, OutOfMemory, Trace};
@@ -17,46 +17,36 @@ use ea_sched::{Scheduler, migrates};
 use ea_shared::Rested;
 use std::alloc::Global;
 
-/// The layout of the carrier with that number, if it is there.
-fn layout_at<H: Rested<Content = Mbc>>(
-    alloc: Global,
-    schedulers: &[Scheduler<'_>],
-    shared: &H,
-    migrates: bool,
-    number: u32,
-) -> Result<Option<Layout>, OutOfMemory>
-    requires migrates { migrates ≡ (H.shared shared.now).migrates }
-    requires number { IsCarrier (H.shared shared.now).schedulers number }
-    ensures { IfOk result (λ layout. option_map plain_layout layout
-        ≡ option_map (λ p. layout_of p.content)
-        (carrier_of migrates (H.shared shared.now).places schedulers.now number)) }
-{
-    match find(schedulers, shared, migrates, number) {
-        Some(carrier) => carrier.layout(alloc, number),
-        None => Ok(None),
-    }
-}
-
-/// The layouts of all carriers that are there, by number: there are that many numbers.
-fn layouts_from<H: Rested<Content = Mbc>>(
-    alloc: Global,
-    schedulers: &[Scheduler<'_>],
-    shared: &H,
-    migrates: bool,
-    numbers: u32,
-) -> Result<List<Layout>, OutOfMemory>
-    requires migrates { migrates ≡ (H.shared shared.now).migrates }
-    requires numbers { numbers ≡ NUMBERS * (H.shared shared.now).schedulers }
-    ensures { IfOk result (λ layouts. map plain_layout layouts.items
-        ≡ first_layouts migrates (H.shared shared.now).places schedulers.now numbers) }
-{
-    let mut layouts = List::new(alloc);
-    for before in 0..numbers {
-        if let Some(layout) = layout_at(alloc, schedulers, shared, migrates, before + 1)? {
-            layouts.push(layout)?;
+impl<'a, 't, H: Rested<Content = Mbc>> AtRest<'a, 't, H> {
+    /// The layout of the carrier with that number, if it is there.
+    fn layout_at(&self, alloc: Global, number: u32) -> Result<Option<Layout>, OutOfMemory>
+        requires number { IsCarrier (H.shared self.now.shared.now).schedulers number }
+        ensures { IfOk result (λ layout. option_map plain_layout layout
+            ≡ option_map (λ p. layout_of p.content)
+            (carrier_of self.now.migrates
+            (H.shared self.now.shared.now).places self.now.schedulers.now number)) }
+    {
+        match self.find(number) {
+            Some(carrier) => carrier.layout(alloc, number),
+            None => Ok(None),
         }
     }
-    Ok(layouts)
+
+    /// The layouts of all carriers that are there, by number: there are that many numbers.
+    fn layouts(&self, alloc: Global, numbers: u32) -> Result<List<Layout>, OutOfMemory>
+        requires numbers { numbers ≡ NUMBERS * (H.shared self.now.shared.now).schedulers }
+        ensures { IfOk result (λ layouts. map plain_layout layouts.items
+            ≡ first_layouts self.now.migrates
+            (H.shared self.now.shared.now).places self.now.schedulers.now numbers) }
+    {
+        let mut layouts = List::new(alloc);
+        for before in 0..numbers {
+            if let Some(layout) = self.layout_at(alloc, before + 1)? {
+                layouts.push(layout)?;
+            }
+        }
+        Ok(layouts)
+    }
 }
 
 /// The layouts of all carriers of a run in which nobody steps any more, by number, wherever they
@@ -79,5 +69,10 @@ pub fn layouts_of<H: Rested<Content = Mbc>>(
         (H.shared shared.now).places (H.shared shared.now).named) }
 {
     let numbers = NUMBERS * config.schedulers;
-    layouts_from(alloc, schedulers, shared, migrates(config, trace), numbers)
+    let rest = AtRest {
+        schedulers,
+        shared,
+        migrates: migrates(config, trace),
+    };
+    rest.layouts(alloc, numbers)
 }

@@ -11,8 +11,7 @@ ghost use Rattle.ea_shared.specs.Carriers.{IsCarrier};
 ghost use Rattle.ea_outcome.specs.Resting.{HaveParts, IsOutcome, Stand};
 ghost use Rattle.ea_outcome.specs.Resting.{carrier_of, first_lines, totals_by};
 
-use crate::finding::find;
-use crate::units::live_units;
+use crate::finding::AtRest;
 use ea_mbc::Mbc;
 use ea_model::{
     CarrierLine, Config, HEADER_UNITS, List, Log, NUMBERS, OutOfMemory, Outcome, PAGE_UNITS,
@@ -34,44 +33,35 @@ fn logs_of(alloc: Global, schedulers: List<Scheduler<'_>>) -> Result<List<Log>, 
     Ok(logs)
 }
 
-/// The line of the carrier with that number, if it is there.
-fn line_at<H: Rested<Content = Mbc>>(
-    schedulers: &[Scheduler<'_>],
-    shared: &H,
-    migrates: bool,
-    number: u32,
-) -> Option<CarrierLine>
-    requires migrates { migrates ≡ (H.shared shared.now).migrates }
-    requires number { IsCarrier (H.shared shared.now).schedulers number }
-    ensures { result ≡ option_map line_of
-        (carrier_of migrates (H.shared shared.now).places schedulers.now number) }
-{
-    match find(schedulers, shared, migrates, number) {
-        Some(carrier) => carrier.line(number),
-        None => None,
-    }
-}
-
-/// The lines of all carriers that are there, by number: there are that many numbers.
-fn lines_of<H: Rested<Content = Mbc>>(
-    alloc: Global,
-    schedulers: &[Scheduler<'_>],
-    shared: &H,
-    migrates: bool,
-    numbers: u32,
-) -> Result<List<CarrierLine>, OutOfMemory>
-    requires migrates { migrates ≡ (H.shared shared.now).migrates }
-    requires numbers { numbers ≡ NUMBERS * (H.shared shared.now).schedulers }
-    ensures { IfOk result (λ lines. lines.items
-        ≡ first_lines migrates (H.shared shared.now).places schedulers.now numbers) }
-{
-    let mut lines = List::new(alloc);
-    for before in 0..numbers {
-        if let Some(line) = line_at(schedulers, shared, migrates, before + 1) {
-            lines.push(line)?;
+impl<'a, 't, H: Rested<Content = Mbc>> AtRest<'a, 't, H> {
+    /// The line of the carrier with that number, if it is there.
+    fn line_at(&self, number: u32) -> Option<CarrierLine>
+        requires number { IsCarrier (H.shared self.now.shared.now).schedulers number }
+        ensures { result ≡ option_map line_of
+            (carrier_of self.now.migrates
+            (H.shared self.now.shared.now).places self.now.schedulers.now number) }
+    {
+        match self.find(number) {
+            Some(carrier) => carrier.line(number),
+            None => None,
         }
     }
-    Ok(lines)
+
+    /// The lines of all carriers that are there, by number: there are that many numbers.
+    fn lines(&self, alloc: Global, numbers: u32) -> Result<List<CarrierLine>, OutOfMemory>
+        requires numbers { numbers ≡ NUMBERS * (H.shared self.now.shared.now).schedulers }
+        ensures { IfOk result (λ lines. lines.items
+            ≡ first_lines self.now.migrates
+            (H.shared self.now.shared.now).places self.now.schedulers.now numbers) }
+    {
+        let mut lines = List::new(alloc);
+        for before in 0..numbers {
+            if let Some(line) = self.line_at(before + 1) {
+                lines.push(line)?;
+            }
+        }
+        Ok(lines)
+    }
 }
 
 /// The units of the carrier with that line.
@@ -136,10 +126,14 @@ pub fn outcome_of<H: Rested<Content = Mbc>>(
         (H.shared shared.now).places (H.shared shared.now).named) }
 {
     let on = migrates(config, trace);
-    let numbers = NUMBERS * config.schedulers;
-    let carriers = lines_of(alloc, schedulers.as_slice(), shared, on, numbers)?;
+    let rest = AtRest {
+        schedulers: schedulers.as_slice(),
+        shared,
+        migrates: on,
+    };
+    let carriers = rest.lines(alloc, NUMBERS * config.schedulers)?;
     let units = units_of(carriers.as_slice());
-    let live = live_units(schedulers.as_slice(), shared, on, trace.greatest);
+    let live = rest.live_units(trace.greatest);
     let totals = totals_of(carriers.as_slice(), units, live);
     Ok(Outcome {
         logs: logs_of(alloc, schedulers)?,

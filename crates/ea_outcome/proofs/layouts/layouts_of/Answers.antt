@@ -4,9 +4,9 @@ use Rattle.ea_outcome.proofs.OutcomeLayouts.{layouts-printed}
 use Rattle.ea_outcome.proofs.layouts.layouts_of.Goals as goal
 
 pub returns : goal.returns
-returns g c = IfOk-weaker c.layouts_from.result _ _ (λ ls found. λ turns stand.
+returns g c = IfOk-weaker c.layouts.result _ _ (λ ls found. λ turns stand.
     found ∙ layouts-printed c.args.config c.args.trace.now c.requires.config c.requires.trace
     c.migrates.result c.migrates.ensures c.args.schedulers.now
     (g.H.Rested.shared c.args.shared.now).places (g.H.Rested.shared c.args.shared.now).named
     turns stand)
-    c.layouts_from.ensures
+    c.layouts.ensures

@@ -31,7 +31,7 @@ live_units-live-requires-clause-schedulers g c =
     c.requires.config c.requires.trace c.migrates-on.result
     c.migrates-on.ensures c.args.schedulers.items (g.H.Rested.shared c.args.shared.now).places
     (g.H.Rested.shared c.args.shared.now).named w stand)
-    ∙ sym (ap length c.as_slice-3.ensures)
+    ∙ sym (ap length c.as_slice.ensures)
 
 pub live_units-live-requires-clause-given : goal.live_units-live-requires-clause-given
 live_units-live-requires-clause-given g c =
@@ -45,7 +45,7 @@ live_units-live-requires-clause-live g c =
     let (w, stand) = c.requires.stand in
     let places = (g.H.Rested.shared c.args.shared.now).places in
     let named = (g.H.Rested.shared c.args.shared.now).named in
-    subst (λ xs. AreLive c.migrates-on.result places xs named) (sym c.as_slice-3.ensures)
+    subst (λ xs. AreLive c.migrates-on.result places xs named) (sym c.as_slice.ensures)
     (are-live c.args.config c.args.trace.now c.requires.config c.requires.trace c.migrates-on.result
     c.migrates-on.ensures c.args.schedulers.items (g.H.Rested.shared c.args.shared.now).places
     (g.H.Rested.shared c.args.shared.now).named w stand)
@@ -65,7 +65,7 @@ live_units-live-requires-clause-fits g c =
     (g.H.Rested.shared c.args.shared.now).named) refl in
     omega (
       arith,
-      ap (λ xs. live_units c.migrates-on.result places xs named) c.as_slice-3.ensures,
+      ap (λ xs. live_units c.migrates-on.result places xs named) c.as_slice.ensures,
       parts.among,
       parts.rest,
       c.units_of-units.ensures,
@@ -78,7 +78,7 @@ totals_of-totals-requires-clause-parts g c =
     let (w, stand) = c.requires.stand in
     let places = (g.H.Rested.shared c.args.shared.now).places in
     let named = (g.H.Rested.shared c.args.shared.now).named in
-    subst (λ xs. HaveParts xs c.live_units-live.result) (sym c.as_slice-4.ensures)
+    subst (λ xs. HaveParts xs c.live_units-live.result) (sym c.as_slice-3.ensures)
     (their-parts c.args.config c.args.trace.now
     c.requires.config c.requires.trace c.migrates-on.result
     c.migrates-on.ensures c.args.schedulers.items (g.H.Rested.shared c.args.shared.now).places
@@ -86,7 +86,7 @@ totals_of-totals-requires-clause-parts g c =
     c.as_slice.result.now c.as_slice.ensures c.in_ok-carriers.carriers.items
     c.in_ok-carriers.ensures c.live_units-live.result
     (c.live_units-live.ensures ∙ ap (λ xs. live_units c.migrates-on.result places xs named)
-    c.as_slice-3.ensures))
+    c.as_slice.ensures))
 
 pub returns : goal.returns
 returns g c = λ w stand.
@@ -99,7 +99,7 @@ returns g c = λ w stand.
     c.as_slice.result.now c.as_slice.ensures c.in_ok-carriers.carriers.items
     c.in_ok-carriers.ensures c.live_units-live.result
     (c.live_units-live.ensures ∙ ap (λ xs. live_units c.migrates-on.result places xs named)
-    c.as_slice-3.ensures)
+    c.as_slice.ensures)
     (record {
       logs = c.in_ok-logs_of.field-0;
       carriers = c.in_ok-carriers.carriers;
@@ -107,4 +107,4 @@ returns g c = λ w stand.
     })
     c.in_ok-logs_of.ensures refl
     (c.totals_of-totals.ensures
-    ∙ ap (λ xs. totals_by xs c.live_units-live.result) c.as_slice-4.ensures)
+    ∙ ap (λ xs. totals_by xs c.live_units-live.result) c.as_slice-3.ensures)
