@@ -170,6 +170,10 @@ module _ (s : Settings) (n : ℕ) (own : OwnList) (ks : CarrierList) (ss : List 
         → content_of (employed now) number ≡ Some c
     found-multi c there = seen-found ∙ ap (λ o. either o (content_of ss number)) there
 
+    pub employs-multi : has_content number now.contents ≡ true
+        → has_content number (employed now) ≡ true
+    employs-multi has = let (c, there) = multi-there has in ap is_some (found-multi c there)
+
     pub found-single : content_of ks.contents number ≡ None
         → content_of (employed now) number ≡ content_of ss number
     found-single none = seen-found ∙ ap (λ o. either o (content_of ss number)) none

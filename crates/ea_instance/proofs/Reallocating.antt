@@ -22,11 +22,12 @@ use Rattle.ea_model.proofs.Options.{same-some, some_value}
 use Rattle.ea_model.proofs.Rising.{changed-found, changed_here, changed_past, item_at-All}
 use Rattle.ea_model.proofs.Rising.{item_here, item_past}
 use Rattle.ea_mbc.specs.Gaps.{room_at}
-use Rattle.ea_laws.specs.Kept.{number_of, HasOneBlock, IsLaidOutAlone, Stands}
+use Rattle.ea_laws.specs.Kept.{number_of, HasOneBlock, IsLaidOutAlone, IsOrderly, Stands}
 use Rattle.ea_laws.specs.Spots.{IsOther}
 use Rattle.ea_laws.proofs.Apart.{only-item}
 use Rattle.ea_laws.proofs.Changed.{resized-keeps}
 use Rattle.ea_laws.proofs.Contents.{block_among}
+use Rattle.ea_laws.proofs.Orderly.{stays-employed}
 use Rattle.ea_laws.proofs.Owned.{with_units}
 use Rattle.ea_laws.proofs.Reallocating.{multi-decided, multi-grows, multi-resized_to, multi-shrinks}
 use Rattle.ea_laws.proofs.Reallocating.{resizing-begins, resizing-others, resizing-Stands}
@@ -291,9 +292,6 @@ module _ (s : Settings) (n : ℕ) (own : OwnList) (ks : CarrierList) (ss : List 
         let (c, there, begins) = some-content ss spot block_alone in
         let (b, found) = some_value (block_at c.blocks offset) begins in (c, b, there, found)
 
-    pub never-none : content_of ss number ≡ None → ⊥
-    never-none gone = let never : Some alone.0 ≡ None = sym alone.2 ∙ gone in cc
-
     abbrev c : Content
     c = alone.0
 
@@ -490,3 +488,20 @@ module _ (now new : Instance) (spot : Spot) (need name : ℕ)
   answer-others told a at other =
       ap (λ i. block_in (employed i) at) a.resized
       ∙ resizing-others now spot need name some at other
+
+-- a block whose carrier isn't employed here is to move where it is reallocated
+pub foreign-moves : (i : Instance) (spot : Spot) (need : ℕ) → IsOrderly i
+    → has_content spot.carrier (employed i) ≡ false → decision_at i spot need ≡ Move
+foreign-moves i spot need order other = by (decision_at i spot need) refl where
+  never : decision_at i spot need ≢ Move → ⊥
+  never stays =
+      let (x, there) = stays-employed i spot need order stays in
+      let no : true ≡ false = sym (ap is_some there) ∙ other in cc
+
+  by : (d : Decision) → decision_at i spot need ≡ d → decision_at i spot need ≡ Move
+  by Stay e = absurd (never (λ q. let no : Stay ≡ Move = sym e ∙ q in cc))
+  by ShrinkHere e = absurd (never (λ q. let no : ShrinkHere ≡ Move = sym e ∙ q in cc))
+  by GrowHere e = absurd (never (λ q. let no : GrowHere ≡ Move = sym e ∙ q in cc))
+  by (ShrinkCarrier pages) e =
+      absurd (never (λ q. let no : ShrinkCarrier pages ≡ Move = sym e ∙ q in cc))
+  by Move e = e

@@ -375,9 +375,8 @@ impl Instance {
 
     /// The carrier that it would create for a block of `need` units, or why it can't: a multiblock
     /// carrier, or, for one that is alone, a singleblock carrier of the least pages.
-    pub fn plan_carrier(&self, need: u32, alone: bool) -> Result<CarrierPlan, NoCarrier>
-        requires count { self.now.created + 1 < 2 ^ 32 }
-        requires alone { alone ≡ is_alone self.now need }
+    pub fn plan_carrier(&self, need: u32) -> Result<CarrierPlan, NoCarrier>
+        requires { self.now.created + 1 < 2 ^ 32 }
         ensures plan { result ≡ plan self.now need }
 
         // Numbers exactly where all its numbers are in use; Space exactly where one is not, and no
@@ -387,11 +386,12 @@ impl Instance {
             ↔ ((AllUsed self.now → ⊥) × All (λ r. r.pages < least_pages need)
             (runs self.now.first self.now.end (segments self.now.own))) }
         ensures pages { IfOk result (λ p. (1 ≤ p.pages) × (p.pages ≤ MAX_PAGES)) }
-        ensures single { IfOk result (λ p. p.single ≡ alone) }
+        ensures single { IfOk result (λ p. p.single ≡ is_alone self.now need) }
     {
         let Some(number) = self.own.unused_number(first_number(self.number)) else {
             return Err(NoCarrier::Numbers);
         };
+        let alone = self.is_alone(need);
         let least = least_pages(need);
         let wanted = if alone { least } else { self.next_pages(least) };
         let falling = self.settings.rules.falling;
@@ -437,14 +437,15 @@ impl Instance {
         self.spare.carrier(alloc, plan, self.number, order)
     }
 
-    /// Employs the multiblock carrier of its present plan for a block of `need` units. It takes no
-    /// memory.
-    pub fn create(&mut self, plan: CarrierPlan, need: u32, carrier: Mbc)
-        requires plan { instances.plan self.old need ≡ Ok plan }
+    /// Employs the multiblock carrier of its present plan for a block of some units, for which there
+    /// is a choice then. It takes no memory.
+    pub fn create(&mut self, plan: CarrierPlan, carrier: Mbc)
+        requires plan { (need : ℕ) × (instances.plan self.old need ≡ Ok plan) }
         requires multi { plan.single ≡ false }
         requires carrier { carrier ≡ created_content self.old.number Multi plan }
         ensures created { self.new ≡ creating self.old plan }
-        ensures choice { IsSome (chosen_spot self.new need) }
+        ensures choice { (need : ℕ) → instances.plan self.old need ≡ Ok plan
+            → IsSome (chosen_spot self.new need) }
         ensures blocks { HaveSameBlocks (employed self.old) (employed self.new) }
     {
         let kind = Kind::Multi;
@@ -512,10 +513,11 @@ impl Instance {
     }
 
     /// Resizes the block at the spot as is decided for `need` units, with this name from now on,
-    /// and answers its units. None, and nothing changed, where the decision is that it is to move.
-    /// It takes no memory.
+    /// and answers its units. None, and nothing changed, where the decision is that it is to move,
+    /// as it is where the instance doesn't employ the carrier. It takes no memory.
     pub fn resize(&mut self, spot: Spot, need: u32, name: u32) -> Option<u32>
-        requires block { IsSome (block_in (employed self.old) spot) }
+        requires block { has_content spot.carrier (employed self.old) ≡ true
+            → IsSome (block_in (employed self.old) spot) }
         requires even { need % 2 ≡ 0 }
         requires least { MIN_BLOCK ≤ need }
         ensures moves { IsNone result ↔ (decision_at self.old spot need ≡ Move) }
@@ -533,8 +535,10 @@ impl Instance {
         if let Some(found) = self.find_multi(spot.carrier) {
             return self.resize_multi(found, spot.offset, need, name);
         }
-        let decision = self.decided_single(spot, need);
-        self.resize_single(decision, spot, need, name)
+        match self.decided_single(spot, need) {
+            Some(decision) => self.resize_single(decision, spot, need, name),
+            None => None,
+        }
     }
 
     /// Carries out what is decided for a block of the multiblock carrier that was found, and
@@ -567,23 +571,22 @@ impl Instance {
         }
     }
 
-    /// What is decided where the block of a singleblock carrier is to have `need` units.
-    fn decided_single(&self, spot: Spot, need: u32) -> Decision
-        requires block { IsSome (block_in (employed self.now) spot) }
+    /// What is decided where the block of a singleblock carrier is to have `need` units. None where
+    /// it doesn't employ the carrier.
+    fn decided_single(&self, spot: Spot, need: u32) -> Option<Decision>
+        requires block { has_content spot.carrier (employed self.now) ≡ true
+            → IsSome (block_in (employed self.now) spot) }
         requires single { has_content spot.carrier self.now.contents ≡ false }
-        ensures { result ≡ decision_at self.now spot need }
+        ensures there { is_some result ≡ has_content spot.carrier (employed self.now) }
+        ensures decision { IfSome result (λ d. d ≡ decision_at self.now spot need) }
     {
         match item_of(spot.carrier, self.singles.as_slice()) {
             Some(single) => {
                 let units = single.units();
-                decide(
-                    self.settings,
-                    single.allocated(),
-                    need,
-                    Where::Single { units },
-                )
+                let at = Where::Single { units };
+                Some(decide(self.settings, single.allocated(), need, at))
             }
-            None => unreachable!(),
+            None => None,
         }
     }
 

@@ -1,21 +1,16 @@
 -- What the placing of a block makes of an actor, by what it changes.
-use Rattle.std.proofs.Common.{◌≡◌, ◌≢◌, ℕ, Bool, true, false, List, ◌∷◌}
+use Rattle.std.proofs.Common.{◌≡◌, ℕ, Bool, true, false, List, ◌∷◌}
 use Rattle.std.proofs.Common.{refl, sym, ap, ◌∙◌}
-use Rattle.std.specs.Prelude.{◌↔◌, Option, None, Some, Result, Ok, Err, is_some}
+use Rattle.std.specs.Prelude.{◌↔◌, Option, None, Some, Result, Ok, Err}
 use Rattle.std.specs.Prelude.{if◌then◌else◌}
 use Rattle.ea_model.specs.declared.carriers.CarrierPlan.{CarrierPlan}
 use Rattle.ea_model.specs.declared.carriers.Place.{Place}
 use Rattle.ea_model.specs.declared.carriers.Spot.{Spot}
 use Rattle.ea_model.specs.declared.entries.NoCarrier.{NoCarrier}
-use Rattle.ea_model.specs.declared.reallocation.Decision.{Decision}
-use Rattle.ea_model.specs.declared.reallocation.Decision.TheVariants.{Stay, ShrinkHere, GrowHere}
-use Rattle.ea_model.specs.declared.reallocation.Decision.TheVariants.{ShrinkCarrier, Move}
 use Rattle.ea_model.specs.Content.{Content}
-use Rattle.ea_model.specs.Instance.{Instance, chosen_spot, creating, creating_single, decision_at}
-use Rattle.ea_model.specs.Instance.{employed, has_content, is_alone, place_at, placing_at, plan}
+use Rattle.ea_model.specs.Instance.{Instance, chosen_spot, creating, creating_single}
+use Rattle.ea_model.specs.Instance.{employed, is_alone, place_at, placing_at, plan}
 use Rattle.ea_model.specs.Instance.{single_place}
-use Rattle.ea_laws.specs.Kept.{IsOrderly}
-use Rattle.ea_laws.proofs.Orderly.{stays-employed}
 use Rattle.ea_machine.specs.declared.parts.Part.{Part}
 use Rattle.ea_machine.specs.Placements.{fetches}
 use Rattle.ea_machine.specs.declared.asks.Ask.{Ask}
@@ -45,23 +40,6 @@ use Rattle.ea_machine.specs.Walks.{ready, worked_off}
 use Rattle.ea_search.specs.declared.search.Verdict.{Verdict}
 use Rattle.ea_search.specs.declared.search.Verdict.TheVariants.{Skip, Try}
 use Rattle.ea_sched.specs.Passing.{stage_for}
-
--- a block whose carrier isn't employed here is to move where it is reallocated
-pub foreign-moves : (i : Instance) (spot : Spot) (need : ℕ) → IsOrderly i
-    → has_content spot.carrier (employed i) ≡ false → decision_at i spot need ≡ Move
-foreign-moves i spot need order other = by (decision_at i spot need) refl where
-  never : decision_at i spot need ≢ Move → ⊥
-  never stays =
-      let (x, there) = stays-employed i spot need order stays in
-      let no : true ≡ false = sym (ap is_some there) ∙ other in cc
-
-  by : (d : Decision) → decision_at i spot need ≡ d → decision_at i spot need ≡ Move
-  by Stay e = absurd (never (λ q. let no : Stay ≡ Move = sym e ∙ q in cc))
-  by ShrinkHere e = absurd (never (λ q. let no : ShrinkHere ≡ Move = sym e ∙ q in cc))
-  by GrowHere e = absurd (never (λ q. let no : GrowHere ≡ Move = sym e ∙ q in cc))
-  by (ShrinkCarrier pages) e =
-      absurd (never (λ q. let no : ShrinkCarrier pages ≡ Move = sym e ∙ q in cc))
-  by Move e = e
 
 -- a number is next exactly if the search goes on
 looks-by : (b : Bool) (x n : ℕ) → (if b then Some x else None) ≡ Some n → b ≡ true

@@ -51,10 +51,6 @@ impl<'t> Scheduler<'t> {
             need,
             old: Some(old),
         };
-        self.instance.stands();
-        if !self.instance.employs(old.spot.carrier) {
-            return self.seek(alloc, ask);
-        }
         let Some(size) = self.instance.resize(old.spot, need, fresh) else {
             return self.seek(alloc, ask);
         };

@@ -112,7 +112,7 @@ impl<'t> Scheduler<'t> {
         ensures same { IsSame self.old self.new }
     {
         self.instance.stands();
-        self.instance.create(plan, ask.need, carrier);
+        self.instance.create(plan, carrier);
         self.place(ask);
     }
 
@@ -190,12 +190,10 @@ impl<'t> Scheduler<'t> {
         &mut self,
         alloc: Global,
         ask: Ask,
-        alone: bool,
         looked: u32,
     ) -> Result<(), OutOfMemory>
         requires more { HasMore self.old }
         requires asked { IsAsked self.old.instance self.old ask }
-        requires alone { alone ≡ instances.is_alone self.old.instance ask.need }
         requires counts { CanCount self.old.instance }
         ensures actor { OnOk result (actor_of self.new ≡ placements.new_carrier
             (setup_for self.old) self.old.number ask looked (ready_of self.old)) }
@@ -204,7 +202,7 @@ impl<'t> Scheduler<'t> {
             (ready_of self.old))) }
         ensures same { IsSame self.old self.new }
     {
-        match self.instance.plan_carrier(ask.need, alone) {
+        match self.instance.plan_carrier(ask.need) {
             Ok(plan) => self.prepare_planned(alloc, ask, plan),
             Err(why) => {
                 self.finish(failed(ask, looked, why));
@@ -218,7 +216,6 @@ impl<'t> Scheduler<'t> {
     fn seek_beyond(&mut self, alloc: Global, ask: Ask) -> Result<(), OutOfMemory>
         requires more { HasMore self.old }
         requires asked { IsAsked self.old.instance self.old ask }
-        requires shared { instances.is_alone self.old.instance ask.need ≡ false }
         requires counts { CanCount self.old.instance }
         ensures actor { OnOk result (actor_of self.new ≡ placements.search_if
             (setup_for self.old) self.old.number ask (ready_of self.old)
@@ -232,7 +229,7 @@ impl<'t> Scheduler<'t> {
             let search = Search::new(self.greatest(), &self.lists);
             return self.search_on(alloc, ask, search);
         }
-        self.seek_new(alloc, ask, false, 0)
+        self.seek_new(alloc, ask, 0)
     }
 
     /// Places the block: above the singleblock threshold in a carrier of its own, else where the
@@ -250,7 +247,7 @@ impl<'t> Scheduler<'t> {
     {
         if self.instance.is_alone(ask.need) {
             self.instance.refill();
-            return self.seek_new(alloc, ask, true, 0);
+            return self.seek_new(alloc, ask, 0);
         }
         match self.instance.try_alloc(ask.need, ask.name) {
             Some(place) => {

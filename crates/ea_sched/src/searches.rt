@@ -31,22 +31,6 @@ impl<'t> Scheduler<'t> {
         self.config.schedulers * NUMBERS
     }
 
-    /// A search that counted `looked` words is at its end: a carrier is created.
-    fn end_search(&mut self, alloc: Global, ask: Ask, looked: u32) -> Result<(), OutOfMemory>
-        requires more { HasMore self.old }
-        requires asked { IsAsked self.old.instance self.old ask }
-        requires counts { CanCount self.old.instance }
-        ensures actor { OnOk result (actor_of self.new ≡ placements.new_carrier
-            (setup_for self.old) self.old.number ask looked (ready_of self.old)) }
-        ensures memory { OnErr result (PlansFrom self.old
-            (placements.new_carrier (setup_for self.old) self.old.number ask looked
-            (ready_of self.old))) }
-        ensures same { IsSame self.old self.new }
-    {
-        let alone = self.instance.is_alone(ask.need);
-        self.seek_new(alloc, ask, alone, looked)
-    }
-
     /// The search looks at its next number, or a carrier is created where it is at its end.
     pub(crate) fn search_on(
         &mut self,
@@ -73,7 +57,7 @@ impl<'t> Scheduler<'t> {
                 self.stage = Stage::Searching { ask, at, part };
                 Ok(())
             }
-            None => self.end_search(alloc, ask, looked),
+            None => self.seek_new(alloc, ask, looked),
         }
     }
 
@@ -118,7 +102,7 @@ impl<'t> Scheduler<'t> {
                 }
                 None => {
                     let ask = *ask;
-                    self.end_search(alloc, ask, search.looked())
+                    self.seek_new(alloc, ask, search.looked())
                 }
             },
         }

@@ -19,32 +19,45 @@ use ea_names::Names;
 use ea_search::OwnLists;
 use ea_stats::Stats;
 
-/// Scheduler `number` in the run of a trace. Of the run it knows the configuration, the trace, and
-/// whether carriers migrate; for itself it keeps its text, how many of its operations are done, its
-/// allocator instance, the names that it holds, with a place for each that its text brings, where
-/// it is in its operation, the multiblock carrier that it is to create there, if it is to create
-/// one, the nodes that its walk passed and the next one, the statistics of its multiblock and of
-/// its singleblock carriers, its log, and after how many steps it stops, if it does, and how many
-/// are left until then. Once it had no memory it has failed.
+/// A scheduler in the run of a trace, in its operation or between two.
 pub struct Scheduler<'t> {
+    /// The configuration of the run.
     pub(crate) config: Config,
+    /// The trace that is run.
     pub(crate) trace: &'t Trace,
+    /// Whether carriers migrate in the run.
     pub(crate) migrates: bool,
+    /// Its number, from 1 on.
     pub(crate) number: u32,
+    /// Its operations.
     pub(crate) text: &'t [Op],
+    /// How many of them are done.
     pub(crate) done: usize,
+    /// Its allocator instance.
     pub(crate) instance: Instance,
+    /// The numbers of carriers that a search looks at first: those that it has in the pool.
     pub(crate) lists: OwnLists,
+    /// The names that it holds, with a place for each that its text brings.
     pub(crate) names: Names,
+    /// Where it is in its operation.
     pub(crate) stage: Stage<Held>,
+    /// The multiblock carrier that it is to create there, if it is to create one.
     pub(crate) prepared: Option<Mbc>,
+    /// The nodes that its walk passed.
     pub(crate) passed: Passed,
+    /// The next node of its walk.
     pub(crate) next: Option<Node>,
+    /// The statistics of its multiblock carriers.
     pub(crate) mbcs: Stats,
+    /// Those of its singleblock carriers.
     pub(crate) sbcs: Stats,
+    /// What came of its operations.
     pub(crate) log: Log,
+    /// After how many steps it stops, if it does.
     pub(crate) stop: Option<u32>,
+    /// How many steps are left until then.
     pub(crate) left: Option<u32>,
+    /// Whether it had no memory for an operation.
     pub(crate) failed: bool,
     ghost migrates_so: { migrates ≡ migration (setup_of config trace.now) },
     ghost schedulers_to: { config.schedulers ≤ MAX_SCHEDULERS },
@@ -64,36 +77,7 @@ pub struct Scheduler<'t> {
 // Written out, so that a drop of one is a call: proofs of what has one are shorter.
 impl<'t> Drop for Scheduler<'t> {
     fn drop(self) {
-        let Scheduler {
-            config: _,
-            trace: _,
-            migrates: _,
-            number: _,
-            text: _,
-            done: _,
-            instance,
-            lists,
-            names,
-            stage,
-            prepared,
-            passed,
-            next: _,
-            mbcs,
-            sbcs,
-            log,
-            stop: _,
-            left: _,
-            failed: _,
-        } = self;
-        drop(instance);
-        drop(lists);
-        drop(names);
-        drop(stage);
-        drop(prepared);
-        drop(passed);
-        drop(mbcs);
-        drop(sbcs);
-        drop(log);
+        drop(self.into_entries());
     }
 }
 

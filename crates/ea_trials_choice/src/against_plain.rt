@@ -209,13 +209,12 @@ impl Sides {
     // Creates a carrier for a block of `need` units, where one can be.
     fn create(&mut self, rt: &impl Abort, alloc: Global, need: u32) -> Result<bool, OutOfMemory> {
         assert!(rt; self.instance.created() < 1000);
-        let alone = self.instance.is_alone(need);
-        assert!(rt; !alone);
-        let Ok(plan) = self.instance.plan_carrier(need, alone) else {
+        assert!(rt; !self.instance.is_alone(need));
+        let Ok(plan) = self.instance.plan_carrier(need) else {
             return Ok(false);
         };
         let carrier = self.instance.prepare(alloc, plan)?;
-        self.instance.create(plan, need, carrier);
+        self.instance.create(plan, carrier);
         push_carrier(
             &mut self.carriers,
             PlainCarrier::new(alloc, 1, Kind::Multi, plan),

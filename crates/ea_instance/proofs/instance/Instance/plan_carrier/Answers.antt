@@ -30,18 +30,18 @@ at_wanted c =
     ∙ ap (λ (j : Instance). unused_from NUMBERS (first_number j.number) j.own) c.self.view_is in
     let wants : c.if-alone.wanted ≡ wanted_pages i c.args.need = elim c.if-alone.branch [
       | then-alone w ↦ w.wanted-is ∙ c.least_pages-least.ensures
-          ∙ wanted-least i c.args.need (sym c.requires.alone ∙ w.if-alone.true)
+          ∙ wanted-least i c.args.need (sym c.is_alone-alone.ensures ∙ w.if-alone.true)
       | else-alone w ↦ w.wanted-is ∙ w.next_pages-wanted.ensures
           ∙ ap (λ n. rounded i.settings (max n (pages_for (growth i.settings (multis i.contents)))))
           c.least_pages-least.ensures
-          ∙ wanted-next i c.args.need (sym c.requires.alone ∙ w.if-alone.false)
+          ∙ wanted-next i c.args.need (sym c.is_alone-alone.ensures ∙ w.if-alone.false)
     ] in
     let run : (n : ℕ) → place_in c.self.inside.settings.rules.falling n (runs
     c.self.inside.own.first c.self.inside.own.end
     (segments c.self.inside.own.carriers)) ≡ free_run i n =
     λ n. ap (λ j. free_run j n) c.self.view_is in
     ap Ok c.planned.ensures
-    ∙ plan-wanted i c.args.need c.in-Some.number c.if-alone.wanted c.args.alone c.requires.alone
+    ∙ plan-wanted i c.args.need c.in-Some.number c.if-alone.wanted c.is_alone-alone.result c.is_alone-alone.ensures
     free wants c.in-Some-free_run.base
     (sym c.in-Some-free_run.is ∙ c.free_run.ensures ∙ run c.if-alone.wanted)
 
@@ -55,11 +55,11 @@ at_least c =
     ∙ ap (λ (j : Instance). unused_from NUMBERS (first_number j.number) j.own) c.self.view_is in
     let wants : c.if-alone.wanted ≡ wanted_pages i c.args.need = elim c.if-alone.branch [
       | then-alone w ↦ w.wanted-is ∙ c.least_pages-least.ensures
-          ∙ wanted-least i c.args.need (sym c.requires.alone ∙ w.if-alone.true)
+          ∙ wanted-least i c.args.need (sym c.is_alone-alone.ensures ∙ w.if-alone.true)
       | else-alone w ↦ w.wanted-is ∙ w.next_pages-wanted.ensures
           ∙ ap (λ n. rounded i.settings (max n (pages_for (growth i.settings (multis i.contents)))))
           c.least_pages-least.ensures
-          ∙ wanted-next i c.args.need (sym c.requires.alone ∙ w.if-alone.false)
+          ∙ wanted-next i c.args.need (sym c.is_alone-alone.ensures ∙ w.if-alone.false)
     ] in
     let run : (n : ℕ) → place_in c.self.inside.settings.rules.falling n (runs
     c.self.inside.own.first c.self.inside.own.end
@@ -72,9 +72,9 @@ at_least c =
       base = c.in-Some-free_run-2.base;
       pages = n;
       birth = i.created + 1;
-      single = c.args.alone;
+      single = c.is_alone-alone.result;
     }) least)
-    ∙ plan-least i c.args.need c.in-Some.number c.if-alone.wanted c.args.alone c.requires.alone
+    ∙ plan-least i c.args.need c.in-Some.number c.if-alone.wanted c.is_alone-alone.result c.is_alone-alone.ensures
     free wants (sym c.in-None.is ∙ c.free_run.ensures ∙ run c.if-alone.wanted)
     c.in-Some-free_run-2.base
     (sym c.in-Some-free_run-2.is ∙ c.free_run-in-None.ensures ∙ run c.least_pages-least.result
@@ -89,17 +89,17 @@ no_space c =
     ∙ ap (λ (j : Instance). unused_from NUMBERS (first_number j.number) j.own) c.self.view_is in
     let wants : c.if-alone.wanted ≡ wanted_pages i c.args.need = elim c.if-alone.branch [
       | then-alone w ↦ w.wanted-is ∙ c.least_pages-least.ensures
-          ∙ wanted-least i c.args.need (sym c.requires.alone ∙ w.if-alone.true)
+          ∙ wanted-least i c.args.need (sym c.is_alone-alone.ensures ∙ w.if-alone.true)
       | else-alone w ↦ w.wanted-is ∙ w.next_pages-wanted.ensures
           ∙ ap (λ n. rounded i.settings (max n (pages_for (growth i.settings (multis i.contents)))))
           c.least_pages-least.ensures
-          ∙ wanted-next i c.args.need (sym c.requires.alone ∙ w.if-alone.false)
+          ∙ wanted-next i c.args.need (sym c.is_alone-alone.ensures ∙ w.if-alone.false)
     ] in
     let run : (n : ℕ) → place_in c.self.inside.settings.rules.falling n (runs
     c.self.inside.own.first c.self.inside.own.end
     (segments c.self.inside.own.carriers)) ≡ free_run i n =
     λ n. ap (λ j. free_run j n) c.self.view_is in
-    plan-no_space i c.args.need c.in-Some.number c.if-alone.wanted c.args.alone c.requires.alone
+    plan-no_space i c.args.need c.in-Some.number c.if-alone.wanted c.is_alone-alone.result c.is_alone-alone.ensures
     free wants (sym c.in-None.is ∙ c.free_run.ensures ∙ run c.if-alone.wanted)
     (sym c.in-None-free_run.is ∙ c.free_run-in-None.ensures ∙ run c.least_pages-least.result
     ∙ ap (free_run i) c.least_pages-least.ensures)

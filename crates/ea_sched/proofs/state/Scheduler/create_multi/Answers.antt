@@ -8,6 +8,9 @@ use Rattle.ea_sched.specs.Acting.{ready_of, setup_for}
 use Rattle.ea_sched.proofs.OwnCarriers.{asked-again, created-own}
 use Rattle.ea_sched.proofs.state.Scheduler.create_multi.Goals as goal
 
+pub create-requires-clause-plan : goal.create-requires-clause-plan
+create-requires-clause-plan c = (c.args.ask.need, c.requires.plan)
+
 pub create-requires-clause-carrier : goal.create-requires-clause-carrier
 create-requires-clause-carrier c =
     let s = c.args.self.now in
@@ -33,3 +36,6 @@ place-requires-clause-asked c =
     (λ at is. subst IsSome (sym (c.create.ensures.blocks at)) is)
     (λ n is. subst (λ (i : Instance). IsSome (own_at i.own n)) (sym c.create.ensures.created)
     (created-own s.instance ask.need c.args.plan c.requires.plan n is)) ask c.requires.asked
+
+pub place-requires-clause-choice : goal.place-requires-clause-choice
+place-requires-clause-choice c = c.create.ensures.choice c.args.ask.need c.requires.plan

@@ -6,21 +6,10 @@ use Rattle.ea_model.specs.Instance.{Instance, decision_at, resized_by, resized_t
 use Rattle.ea_machine.specs.Nodes.{spot_named, with_name}
 use Rattle.ea_machine.specs.Placements.{seek}
 use Rattle.ea_sched.specs.Acting.{ready_of, setup_for}
-use Rattle.ea_sched.proofs.Placing.{foreign-moves}
 use Rattle.ea_sched.proofs.Acts.{plans-as, planned-from, kept-resized, made-as}
 use Rattle.ea_sched.proofs.Acts.{unheld-let_go}
 use Rattle.ea_sound.proofs.Paths.{moves, resized}
 use Rattle.ea_sched.proofs.state.Scheduler.reallocate.Goals as goal
-
-pub returns-then-not-employs-clause-actor : goal.returns-then-not-employs-clause-actor
-returns-then-not-employs-clause-actor c =
-    let s = c.args.self.now in
-    let old = c.args.old in
-    let need = c.args.need in
-    let goes = foreign-moves s.instance old.spot need c.stands.ensures.stands.orderly
-    (sym c.employs.ensures ∙ c.if-not-employs.true) in
-    made-as c.seek.result _ c.seek.ensures.actor
-    (sym (moves (setup_for s) s.number (ready_of s) old c.args.fresh need goes))
 
 pub hold-requires-clause-fresh : goal.hold-requires-clause-fresh
 hold-requires-clause-fresh c =
@@ -37,7 +26,7 @@ returns-in_default-clause-actor c =
     c.resize.ensures.moves.0 (subst IsNone (sym c.in_default.is) refl) in
     let same = c.resize.ensures.resized
     ∙ ap (λ d. resized_by d s.instance old.spot (resized_to s.instance old.spot need) fresh) goes in
-    made-as c.seek-in_default.result _ c.seek-in_default.ensures.actor
+    made-as c.seek.result _ c.seek.ensures.actor
     (ap (λ i. seek (setup_for s) s.number (record { name = fresh; need = need; old = Some old })
     (record (ready_of s) { instance = i })) same
     ∙ sym (moves (setup_for s) s.number (ready_of s) old fresh need goes))
@@ -64,16 +53,6 @@ returns-clause-actor c =
     ∙ sym (resized (setup_for s) s.number (ready_of s) old fresh need
     (decision_at s.instance old.spot need) refl stays)
 
-pub returns-then-not-employs-clause-memory : goal.returns-then-not-employs-clause-memory
-returns-then-not-employs-clause-memory c =
-    let s = c.args.self.now in
-    let old = c.args.old in
-    let need = c.args.need in
-    let goes = foreign-moves s.instance old.spot need c.stands.ensures.stands.orderly
-    (sym c.employs.ensures ∙ c.if-not-employs.true) in
-    plans-as c.seek.result s c.seek.ensures.memory
-    (sym (moves (setup_for s) s.number (ready_of s) old c.args.fresh need goes))
-
 pub returns-in_default-clause-memory : goal.returns-in_default-clause-memory
 returns-in_default-clause-memory c =
     let s = c.args.self.now in
@@ -84,9 +63,9 @@ returns-in_default-clause-memory c =
     c.resize.ensures.moves.0 (subst IsNone (sym c.in_default.is) refl) in
     let same = c.resize.ensures.resized
     ∙ ap (λ d. resized_by d s.instance old.spot (resized_to s.instance old.spot need) fresh) goes in
-    plans-as c.seek-in_default.result s
-    (on_err_weaker c.seek-in_default.result (planned-from c.resize.new.self s.instance _
-    (ap (λ (i : Instance). i.created) same)) c.seek-in_default.ensures.memory)
+    plans-as c.seek.result s
+    (on_err_weaker c.seek.result (planned-from c.resize.new.self s.instance _
+    (ap (λ (i : Instance). i.created) same)) c.seek.ensures.memory)
     (ap (λ i. seek (setup_for s) s.number (record { name = fresh; need = need; old = Some old })
     (record (ready_of s) { instance = i })) same
     ∙ sym (moves (setup_for s) s.number (ready_of s) old fresh need goes))

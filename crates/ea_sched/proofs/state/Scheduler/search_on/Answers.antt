@@ -15,7 +15,7 @@ returns-in-Some-clause-actor c =
 pub returns-in-None-clause-actor : goal.returns-in-None-clause-actor
 returns-in-None-clause-actor c =
     let s = c.args.self.now in
-    made-as c.end_search.result _ c.end_search.ensures.actor
+    made-as c.seek_new.result _ c.seek_new.ensures.actor
     (ap (λ k. new_carrier (setup_for s) s.number c.args.ask k (ready_of s)) c.looked-looked.ensures
     ∙ none-creates (setup_for s) s.number c.args.ask (standing c.args.search s.lists.lists)
     (ready_of s) (sym c.next_look.ensures ∙ c.in-None.is))
@@ -23,7 +23,7 @@ returns-in-None-clause-actor c =
 pub returns-in-None-clause-memory : goal.returns-in-None-clause-memory
 returns-in-None-clause-memory c =
     let s = c.args.self.now in
-    plans-as c.end_search.result s c.end_search.ensures.memory
+    plans-as c.seek_new.result s c.seek_new.ensures.memory
     (ap (λ k. new_carrier (setup_for s) s.number c.args.ask k (ready_of s)) c.looked-looked.ensures
     ∙ none-creates (setup_for s) s.number c.args.ask (standing c.args.search s.lists.lists)
     (ready_of s) (sym c.next_look.ensures ∙ c.in-None.is))

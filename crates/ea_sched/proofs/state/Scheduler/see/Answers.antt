@@ -19,16 +19,16 @@ pub saw-requires-clause-before : goal.saw-requires-clause-before
 saw-requires-clause-before c = search-before c.args.self.now c.requires.reached.1
     c.in-Searching.ask c.in-Searching.at c.in-Searching.part c.in-Searching.is
 
-pub end_search-requires-clause-more : goal.end_search-requires-clause-more
-end_search-requires-clause-more c = search-more c.args.self.now c.requires.reached.1
+pub seek_new-requires-clause-more : goal.seek_new-requires-clause-more
+seek_new-requires-clause-more c = search-more c.args.self.now c.requires.reached.1
     c.in-Searching.ask c.in-Searching.at c.in-Searching.part c.in-Searching.is
 
-pub end_search-requires-clause-asked : goal.end_search-requires-clause-asked
-end_search-requires-clause-asked c = search-asked c.args.self.now c.requires.reached.1
+pub seek_new-requires-clause-asked : goal.seek_new-requires-clause-asked
+seek_new-requires-clause-asked c = search-asked c.args.self.now c.requires.reached.1
     c.in-Searching.ask c.in-Searching.at c.in-Searching.part c.in-Searching.is _ refl refl
 
-pub end_search-requires-clause-counts : goal.end_search-requires-clause-counts
-end_search-requires-clause-counts c = ready-counts c.args.self.now c.requires.reached.1
+pub seek_new-requires-clause-counts : goal.seek_new-requires-clause-counts
+seek_new-requires-clause-counts c = ready-counts c.args.self.now c.requires.reached.1
 
 pub returns-in-Try-clause-actor : goal.returns-in-Try-clause-actor
 returns-in-Try-clause-actor c =
@@ -63,7 +63,7 @@ returns-in-None-clause-actor c =
     let part = c.in-Searching.part in
     let on = search-on s c.requires.reached.1 ask at part c.in-Searching.is in
     let x = standing c.saw.new.self c.saw.new.lists.lists in
-    made-as c.end_search.result _ c.end_search.ensures.actor
+    made-as c.seek_new.result _ c.seek_new.ensures.actor
     (ap (λ n. new_carrier (setup_for s) s.number ask n
     (record (ready_of s) { lists = c.saw.new.lists.lists })) c.looked.ensures
     ∙ none-creates (setup_for s) s.number ask x (ready_of s)
@@ -80,7 +80,7 @@ returns-in-None-clause-memory c =
     let part = c.in-Searching.part in
     let on = search-on s c.requires.reached.1 ask at part c.in-Searching.is in
     let x = standing c.saw.new.self c.saw.new.lists.lists in
-    plans-as c.end_search.result s c.end_search.ensures.memory
+    plans-as c.seek_new.result s c.seek_new.ensures.memory
     (ap (λ n. new_carrier (setup_for s) s.number ask n
     (record (ready_of s) { lists = c.saw.new.lists.lists })) c.looked.ensures
     ∙ none-creates (setup_for s) s.number ask x (ready_of s)
