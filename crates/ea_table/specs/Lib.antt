@@ -7,3 +7,4 @@ pub mod Handing
 pub mod Threads
 pub mod Ending
 pub mod Working
+pub mod Boards

@@ -10,6 +10,7 @@ ghost use Rattle.ea_machine.specs.Outcome as machine;
 ghost use Rattle.ea_machine.specs.Owners.{word_of};
 ghost use Rattle.ea_machine.specs.Setup.{setup_of};
 ghost use Rattle.ea_shared.specs.Carriers.{IsCarrier};
+ghost use Rattle.ea_table.specs.Boards.{config_of, trace_of};
 ghost use Rattle.ea_table.specs.Ending.{AreGiven, IsClosedIn, IsEnd, IsLast, Turns, places_in};
 ghost use Rattle.ea_table.specs.Slots.{slot_at};
 ghost use Rattle.ea_table.specs.Words.{owner_at, place_code, words_in};
@@ -220,8 +221,8 @@ pub fn gather<'t>(
 ) -> Result<Outcome, OutOfMemory>
     requires config { IsValidConfig config }
     requires trace { IsValidTrace config.schedulers trace.now }
-    requires key_config { board.table.shared.key.config ≡ config }
-    requires key_trace { board.table.shared.key.trace.now ≡ trace.now }
+    requires key_config { config_of board ≡ config }
+    requires key_trace { trace_of board ≡ trace.now }
     requires all { length finished.items ≡ config.schedulers }
     requires each { (k : ℕ) (d : _) → k < config.schedulers
         → IsLast config trace.now board.table.shared.table_id (k + 1)

@@ -5,6 +5,7 @@ ghost use Rattle.ea_model.specs.Settings.{IsValidConfig};
 ghost use Rattle.ea_model.specs.Trace.{IsValidTrace};
 ghost use Rattle.ea_machine.specs.Owners.{Absent};
 ghost use Rattle.ea_shared.specs.Carriers.{main_upto};
+ghost use Rattle.ea_table.specs.Boards.{config_of, trace_of};
 ghost use Rattle.ea_table.specs.Ruling.{waiting_from};
 ghost use Rattle.ea_table.specs.Start.{AreFirst, HasOwners};
 ghost use Rattle.ea_table.specs.Threads.{IsDealt};
@@ -97,8 +98,8 @@ pub fn make_seats<'t>(
 ) -> Result<Made<'t>, OutOfMemory>
     requires config { IsValidConfig config }
     requires trace { IsValidTrace config.schedulers trace.now }
-    ensures config { IfOk result (λ m. m.board.table.shared.key.config ≡ config) }
-    ensures trace { IfOk result (λ m. m.board.table.shared.key.trace.now ≡ trace.now) }
+    ensures config { IfOk result (λ m. config_of m.board ≡ config) }
+    ensures trace { IfOk result (λ m. trace_of m.board ≡ trace.now) }
     ensures all { IfOk result (λ m. length m.passes.items ≡ config.schedulers) }
     ensures each { IfOk result (λ m. (k : ℕ) (d : _) → k < config.schedulers
         → IsDealt config trace.now m.board.table.shared.table_id (k + 1)

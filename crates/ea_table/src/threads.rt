@@ -6,6 +6,7 @@ ghost use Rattle.ea_model.specs.Settings.{IsValidConfig};
 ghost use Rattle.ea_model.specs.Trace.{IsValidTrace};
 ghost use Rattle.ea_sound.specs.MachineLaws.{Protocol};
 ghost use Rattle.ea_machine.specs.Setup.{setup_of};
+ghost use Rattle.ea_table.specs.Boards.{IsAtRestAt, IsFreshAt, config_of, trace_of};
 ghost use Rattle.ea_table.specs.Threads.{IsAtRest, IsDealt, IsFresh, IsOfRun};
 
 use crate::board::Board;
@@ -54,13 +55,10 @@ fn run_worker<'t, G: Gate>(
     board: &Board<'_>,
     gate: &G,
 ) -> Finished<'t>
-    requires config { IsValidConfig board.now.table.shared.key.config }
-    requires trace { IsValidTrace board.now.table.shared.key.config.schedulers
-        board.now.table.shared.key.trace.now }
-    requires fresh { IsFresh board.now.table.shared.key.config board.now.table.shared.key.trace.now
-        board.now.table.shared.table_id worker.scheduler.number worker }
-    ensures { IsAtRest board.now.table.shared.key.config board.now.table.shared.key.trace.now
-        board.now.table.shared.table_id worker.entry.scheduler.number result }
+    requires config { IsValidConfig (config_of board.now) }
+    requires trace { IsValidTrace (config_of board.now).schedulers (trace_of board.now) }
+    requires fresh { IsFreshAt worker.scheduler.number board.now worker }
+    ensures { IsAtRestAt worker.entry.scheduler.number board.now result }
 {
     worker.run(alloc, board, gate)
 }
@@ -73,33 +71,25 @@ fn run_workers<'t, R: Threads + Sync, G: Gate + Sync>(
     gate: &G,
     workers: Vec<Worker<'t>>,
 ) -> Result<Vec<Finished<'t>>, OutOfMemory>
-    requires config { IsValidConfig board.now.table.shared.key.config }
-    requires trace { IsValidTrace board.now.table.shared.key.config.schedulers
-        board.now.table.shared.key.trace.now }
-    requires all { length workers.items ≡ board.now.table.shared.key.config.schedulers }
-    requires each { (k : ℕ) (d : _) → k < board.now.table.shared.key.config.schedulers
-        → IsFresh board.now.table.shared.key.config board.now.table.shared.key.trace.now
-        board.now.table.shared.table_id (k + 1) (slice_index_or workers.items k d) }
+    requires config { IsValidConfig (config_of board.now) }
+    requires trace { IsValidTrace (config_of board.now).schedulers (trace_of board.now) }
+    requires all { length workers.items ≡ (config_of board.now).schedulers }
+    requires each { (k : ℕ) (d : _) → k < (config_of board.now).schedulers
+        → IsFreshAt (k + 1) board.now (slice_index_or workers.items k d) }
     ensures all { IfOk result (λ fs. length fs.items
-        ≡ board.now.table.shared.key.config.schedulers) }
+        ≡ (config_of board.now).schedulers) }
     ensures each { IfOk result (λ fs. (k : ℕ) (d : _)
-        → k < board.now.table.shared.key.config.schedulers
-        → IsAtRest board.now.table.shared.key.config board.now.table.shared.key.trace.now
-        board.now.table.shared.table_id (k + 1) (slice_index_or fs.items k d)) }
+        → k < (config_of board.now).schedulers
+        → IsAtRestAt (k + 1) board.now (slice_index_or fs.items k d)) }
 {
     Ok(thread::map_vec(
         rt,
         workers,
         &|w: Worker<'_>|
-            requires config { IsValidConfig board.now.table.shared.key.config }
-            requires trace { IsValidTrace board.now.table.shared.key.config.schedulers
-                board.now.table.shared.key.trace.now }
-            requires fresh { IsFresh board.now.table.shared.key.config
-                board.now.table.shared.key.trace.now board.now.table.shared.table_id
-                w.scheduler.number w }
-            ensures { IsAtRest board.entry.now.table.shared.key.config
-                board.entry.now.table.shared.key.trace.now board.entry.now.table.shared.table_id
-                w.entry.scheduler.number result }
+            requires config { IsValidConfig (config_of board.now) }
+            requires trace { IsValidTrace (config_of board.now).schedulers (trace_of board.now) }
+            requires fresh { IsFreshAt w.scheduler.number board.now w }
+            ensures { IsAtRestAt w.entry.scheduler.number board.entry.now result }
         { run_worker(w, alloc, board, gate) },
     )?)
 }
@@ -123,8 +113,8 @@ pub fn gather_run<'t>(
 ) -> Result<Outcome, OutOfMemory>
     requires config { IsValidConfig config }
     requires trace { IsValidTrace config.schedulers trace.now }
-    requires key_config { board.table.shared.key.config ≡ config }
-    requires key_trace { board.table.shared.key.trace.now ≡ trace.now }
+    requires key_config { config_of board ≡ config }
+    requires key_trace { trace_of board ≡ trace.now }
     requires all { length finished.items ≡ config.schedulers }
     requires each { (k : ℕ) (d : _) → k < config.schedulers
         → IsAtRest config trace.now board.table.shared.table_id (k + 1)

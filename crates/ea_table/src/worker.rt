@@ -4,10 +4,11 @@ ghost use Rattle.ea_model.specs.Settings.{IsValidConfig};
 ghost use Rattle.ea_model.specs.Trace.{IsValidTrace};
 ghost use Rattle.ea_sched.specs.Acting.{actor_of, rests};
 ghost use Rattle.ea_sched.specs.Steps.{IsReady};
+ghost use Rattle.ea_table.specs.Boards.{IsAtWorkAt, IsFreshAt, config_of, trace_of};
 ghost use Rattle.ea_table.specs.Ending.{IsCounted};
 ghost use Rattle.ea_table.specs.Ruling.{acting, actor_in, told_in};
 ghost use Rattle.ea_table.specs.Seating.{IsSeatedAt};
-ghost use Rattle.ea_table.specs.Threads.{IsAtRest, IsFresh};
+ghost use Rattle.ea_table.specs.Threads.{IsAtRest};
 ghost use Rattle.ea_table.specs.Working.{AtWork, IsAtWork, IsThrough, WorksOn, entries, work_left};
 
 use crate::board::Board;
@@ -95,14 +96,10 @@ impl<'t> Worker<'t> {
 
     /// Sits down at the table, before the first step.
     pub fn begin<'a, 'b>(self, board: &'a Board<'b>) -> Working<'a, 'b, 't>
-        requires config { IsValidConfig board.now.table.shared.key.config }
-        requires trace { IsValidTrace board.now.table.shared.key.config.schedulers
-            board.now.table.shared.key.trace.now }
-        requires fresh { IsFresh board.now.table.shared.key.config
-            board.now.table.shared.key.trace.now board.now.table.shared.table_id
-            self.scheduler.number self }
-        ensures { AtWork board.now.table.shared.key.config board.now.table.shared.key.trace.now
-            board.now.table.shared.table_id self.entry.scheduler.number result }
+        requires config { IsValidConfig (config_of board.now) }
+        requires trace { IsValidTrace (config_of board.now).schedulers (trace_of board.now) }
+        requires fresh { IsFreshAt self.scheduler.number board.now self }
+        ensures { IsAtWorkAt self.entry.scheduler.number board.now result }
     {
         let Worker { scheduler, pass } = self;
         let shared = TableShared::new(board, pass);

@@ -16,7 +16,8 @@ use Rattle.ea_table.specs.declared.board.Board.{Board}
 use Rattle.ea_table.specs.declared.worker.Finished.{Finished}
 use Rattle.ea_table.specs.declared.worker.Worker.{Worker}
 use Rattle.ea_table.specs.Threads.{IsAtRest, IsFresh}
-use Rattle.ea_types.specs.Tables.{AreBoards, AreFresh, IsAtRestAt, IsFreshAt, IsOfValid, RestAt}
+use Rattle.ea_table.specs.Boards.{IsAtRestAt, IsFreshAt}
+use Rattle.ea_types.specs.Tables.{AreBoards, AreFresh, IsOfValid, RestAt}
 use Rattle.ea_types.proofs.Growing.{item-at, one-more}
 
 none : (n : ℕ) → n - n ≡ 0

@@ -10,7 +10,8 @@ use Rattle.ea_table.specs.declared.worker.Finished.{Finished}
 use Rattle.ea_table.specs.declared.worker.Worker.{Worker}
 use Rattle.ea_table.specs.declared.worker.Working.{Working}
 use Rattle.ea_table.specs.Working.{AtWork, IsAtWork, WorksOn}
-use Rattle.ea_types.specs.Tables.{AllWorkOn, AreAtWork, AreFresh, IsAtRestAt, IsFreshAt, RestAt}
+use Rattle.ea_table.specs.Boards.{IsAtRestAt, IsFreshAt}
+use Rattle.ea_types.specs.Tables.{AllWorkOn, AreAtWork, AreFresh, RestAt}
 use Rattle.ea_types.proofs.Growing.{between, one-more, within}
 
 -- a scheduler by its own number

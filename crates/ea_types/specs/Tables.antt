@@ -11,21 +11,20 @@ use Rattle.ea_table.specs.declared.board.Board.{Board}
 use Rattle.ea_table.specs.declared.worker.Finished.{Finished}
 use Rattle.ea_table.specs.declared.worker.Worker.{Worker}
 use Rattle.ea_table.specs.declared.worker.Working.{Working}
-use Rattle.ea_table.specs.Threads.{IsAtRest, IsFresh}
-use Rattle.ea_table.specs.Working.{AtWork, WorksOn}
+use Rattle.ea_table.specs.Boards.{IsAtRestAt, IsAtWorkAt, IsFreshAt, config_of, trace_of}
+use Rattle.ea_table.specs.Working.{WorksOn}
 
 -- the run of the table is that of a valid trace under a valid configuration
 abbrev pub IsOfValid : Board → Type 0
-IsOfValid b = IsValidConfig b.table.shared.key.config
-    × IsValidTrace b.table.shared.key.config.schedulers b.table.shared.key.trace.now
+IsOfValid b = IsValidConfig (config_of b) × IsValidTrace (config_of b).schedulers (trace_of b)
 
 -- the tables are those of the runs of these traces
 pub record AreBoards (c : Config) (ts : List Trace) (bs : List Board) : Type 0 where
   pub count : length bs ≡ length ts
   pub config : (k : ℕ) (b : Board) → k < length ts
-      → (slice_index_or bs k b).table.shared.key.config ≡ c
+      → config_of (slice_index_or bs k b) ≡ c
   pub trace : (k : ℕ) (b : Board) (t : Trace) → k < length ts
-      → (slice_index_or bs k b).table.shared.key.trace.now ≡ slice_index_or ts k t
+      → trace_of (slice_index_or bs k b) ≡ slice_index_or ts k t
 
 -- there is one for each of these tables, and it is so at its own
 pub record EachAt {A : Type 0} (P : Board → A → Type 0) (bs : List Board) (xs : List A) : Type 0
@@ -34,21 +33,8 @@ pub record EachAt {A : Type 0} (P : Board → A → Type 0) (bs : List Board) (x
     pub each : (k : ℕ) (b : Board) (x : A) → k < length bs
         → P (slice_index_or bs k b) (slice_index_or xs k x)
 
--- scheduler i at a table: before its first step, at work, and when it takes no more steps
-
-abbrev pub IsFreshAt : ℕ → Board → Worker → Type 0
-IsFreshAt i b w = IsFresh b.table.shared.key.config b.table.shared.key.trace.now
-    b.table.shared.table_id i w
-
-abbrev pub IsAtWorkAt : ℕ → Board → Working → Type 0
-IsAtWorkAt i b w = AtWork b.table.shared.key.config b.table.shared.key.trace.now
-    b.table.shared.table_id i w
-
-abbrev pub IsAtRestAt : ℕ → Board → Finished → Type 0
-IsAtRestAt i b f = IsAtRest b.table.shared.key.config b.table.shared.key.trace.now
-    b.table.shared.table_id i f
-
--- the same, at each of these tables
+-- scheduler i at each of these tables: before its first step, at work, and when it takes no more
+-- steps
 
 abbrev pub AreFresh : List Board → ℕ → List Worker → Type 0
 AreFresh bs i ws = EachAt (IsFreshAt i) bs ws

@@ -1,6 +1,7 @@
 use Rattle.std.proofs.Common.{◌+◌, [], ◌∷◌, length, refl, sym, ap, ◌∙◌, subst, arith}
 use Rattle.std.proofs.lemmas.List.{append_assoc, get_or_default, length-append}
-use Rattle.ea_types.specs.Tables.{IsAtWorkAt, IsFreshAt, IsOfValid}
+use Rattle.ea_table.specs.Boards.{IsAtWorkAt, IsFreshAt}
+use Rattle.ea_types.specs.Tables.{IsOfValid}
 use Rattle.ea_types.proofs.Growing.{yielded, yields}
 use Rattle.ea_types.proofs.Tabled.{each-more, fresh-next, fresh-own, table-next}
 use Rattle.ea_types.proofs.at_work.begin_all.Goals as goal

@@ -1,7 +1,8 @@
 use Rattle.std.proofs.Common.{◌≡◌, ℕ, ◌<◌, ◌++◌, length, get_or}
 use Rattle.ea_table.specs.declared.board.Board.{Board}
 use Rattle.ea_table.specs.declared.worker.Working.{Working}
-use Rattle.ea_types.specs.Tables.{AreFresh, IsAtWorkAt}
+use Rattle.ea_table.specs.Boards.{IsAtWorkAt}
+use Rattle.ea_types.specs.Tables.{AreFresh}
 use Rattle.ea_types.proofs.at_work.begin_all.Given as goal
 
 abbrev pub invariant-loop-worker : goal.invariant-loop-worker

@@ -1,7 +1,7 @@
 use Rattle.std.proofs.Common.{◌+◌, [], ◌∷◌, length, get_or, sym, ap, ◌∙◌, subst, arith}
 use Rattle.std.proofs.lemmas.List.{append_assoc, length-append}
 use Rattle.ea_table.specs.Working.{IsAtWork, IsThrough}
-use Rattle.ea_types.specs.Tables.{IsAtRestAt, IsAtWorkAt}
+use Rattle.ea_table.specs.Boards.{IsAtRestAt, IsAtWorkAt}
 use Rattle.ea_types.proofs.Growing.{between, within, yielded, yields}
 use Rattle.ea_types.proofs.Tabled.{each-more}
 use Rattle.ea_types.proofs.at_work.finish_all.Goals as goal

@@ -1,7 +1,8 @@
 use Rattle.std.proofs.Common.{◌≡◌, ℕ, ◌<◌, ◌++◌, List, length, get_or}
 use Rattle.ea_table.specs.declared.board.Board.{Board}
 use Rattle.ea_table.specs.declared.worker.Finished.{Finished}
-use Rattle.ea_types.specs.Tables.{AreAtWork, IsAtRestAt}
+use Rattle.ea_table.specs.Boards.{IsAtRestAt}
+use Rattle.ea_types.specs.Tables.{AreAtWork}
 use Rattle.ea_types.proofs.at_work.finish_all.Given as goal
 
 abbrev pub invariant-loop-one : goal.invariant-loop-one

@@ -2,7 +2,8 @@ use Rattle.std.proofs.Common.{◌≡◌, ◌+◌, ◌<◌, [], ◌∷◌, ◌++�
 use Rattle.std.proofs.Common.{◌∙◌, subst, arith}
 use Rattle.std.specs.Prelude.{IfOk}
 use Rattle.std.proofs.lemmas.List.{append_assoc, length-append}
-use Rattle.ea_types.specs.Tables.{AreAtRest, IsAtRestAt, RestAt}
+use Rattle.ea_table.specs.Boards.{IsAtRestAt}
+use Rattle.ea_types.specs.Tables.{AreAtRest, RestAt}
 use Rattle.ea_types.proofs.Growing.{between, item-at, within, written, yielded, yields}
 use Rattle.ea_types.proofs.Tabled.{rest-more, rest-none}
 use Rattle.ea_types.proofs.threads.by_type.Goals as goal

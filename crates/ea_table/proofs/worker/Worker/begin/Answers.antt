@@ -4,6 +4,7 @@ use Rattle.ea_table.specs.declared.pass.Pass.{Pass}
 use Rattle.ea_table.specs.declared.views.View.{View}
 use Rattle.ea_table.specs.Ending.{IsCounted}
 use Rattle.ea_table.specs.Ruling.{told_in}
+use Rattle.ea_table.specs.Boards.{config_of, trace_of}
 use Rattle.ea_table.proofs.Threading.{first-counted, first-ready}
 use Rattle.ea_table.proofs.worker.Worker.begin.Goals as goal
 
@@ -36,9 +37,9 @@ returns c =
           ∙ ap (λ (v : View). v.trace) fresh.pass.view;
       ready = λ going.
           subst (λ (p : Pass). IsReady w.scheduler (told_in p.seat.me.0)) (sym pass)
-          (first-ready b.table.shared.key.config b.table.shared.key.trace.now
+          (first-ready (config_of b) (trace_of b)
           b.table.shared.table_id w.scheduler.number c.requires.config c.requires.trace w fresh);
       counted = λ going. subst (λ (p : Pass). IsCounted p.seat.me.0 w.scheduler) (sym pass)
-          (first-counted b.table.shared.key.config b.table.shared.key.trace.now
+          (first-counted (config_of b) (trace_of b)
           b.table.shared.table_id w.scheduler.number w fresh);
     }
