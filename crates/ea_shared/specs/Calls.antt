@@ -6,8 +6,10 @@
 -- before its call (`KnowsFront`). All later turns are of others, and it learns neither which they
 -- are nor how many. Of what is shared it knows how many nodes are left of its walk (`rest`), since
 -- only it takes its queue and passes nodes.
-use Rattle.std.specs.Prelude.{◌≡◌, ◌≢◌, ℕ, Bool, List, [], ◌∷◌, ◌++◌, All, Option, None, Some}
-use Rattle.std.specs.Prelude.{IfSome, length}
+use Rattle.std.specs.Prelude.{◌≡◌, ◌≢◌, ℕ, ◌≤◌, Bool, true, List, [], ◌∷◌, ◌++◌, All, Option, None}
+use Rattle.std.specs.Prelude.{Some, IfSome, length}
+use Rattle.ea_machine.specs.declared.nodes.Node.{Node}
+use Rattle.ea_machine.specs.Alike.{IsNode}
 use Rattle.ea_machine.specs.Setup.{Setup}
 use Rattle.ea_machine.specs.Shared.{Shared}
 use Rattle.ea_machine.specs.Actor.{Actor}
@@ -32,6 +34,29 @@ pub record Told : Type 0 where
   pub migrates : Bool
   pub shared : Option Shared
   pub caller : Option Caller
+
+-- the number is that of one of the schedulers, the name one that a block may have, the node one that
+-- a queue may have, and carriers migrate
+
+abbrev pub IsOneOf : ℕ → Told → Type 0
+IsOneOf me t = (1 ≤ me) × (me ≤ t.schedulers)
+
+abbrev pub IsName : ℕ → Told → Type 0
+IsName name t = (1 ≤ name) × (name ≤ t.greatest)
+
+abbrev pub IsNodeOf : Node → Told → Type 0
+IsNodeOf node t = IsNode t.schedulers t.greatest node
+
+abbrev pub Migrates : Told → Type 0
+Migrates t = t.migrates ≡ true
+
+-- what is shared is so, where it is told, and the scheduler that calls
+
+abbrev pub SharesSo : Told → (Shared → Type 0) → Type 0
+SharesSo t P = IfSome t.shared P
+
+abbrev pub CallerIs : Told → (Caller → Type 0) → Type 0
+CallerIs t P = IfSome t.caller P
 
 -- both tell the same of schedulers, names and migration
 pub record IsOfSame (x y : Told) : Type 0 where

@@ -16,7 +16,7 @@ use Rattle.ea_machine.specs.Rows as rows
 use Rattle.ea_machine.specs.Shared.{Shared}
 use Rattle.ea_machine.specs.Statistics.{leaving_at}
 use Rattle.ea_machine.specs.Words.{IsLargest}
-use Rattle.ea_shared.specs.Calls.{Caller, WantsRow}
+use Rattle.ea_shared.specs.Calls.{Caller, SharesSo, Told, WantsRow}
 use Rattle.ea_shared.specs.declared.tried.Tried.{Tried}
 use Rattle.ea_shared.specs.declared.tried.Tried.TheVariants.{Won, Lost}
 
@@ -47,6 +47,14 @@ home_of (owners.Returning i x) = Some x
 -- a carrier number of that many schedulers
 abbrev pub IsCarrier : ℕ → ℕ → Type 0
 IsCarrier schedulers number = (1 ≤ number) × (number ≤ NUMBERS * schedulers)
+
+-- of those that share what is told
+abbrev pub IsCarrierOf : ℕ → Told → Type 0
+IsCarrierOf number t = IsCarrier t.schedulers number
+
+-- the carrier is at that place, where it is told
+abbrev pub StandsAt : ℕ → CarrierAt → Told → Type 0
+StandsAt carrier place t = SharesSo t (λ s. s.places carrier ≡ place)
 
 -- no owner word above the last number counts in a search, down from the carrier's
 abbrev pub CountsNone : ℕ → ℕ → Shared → Type 0

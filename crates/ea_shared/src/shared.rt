@@ -1,8 +1,8 @@
 //! The steps that a scheduler takes on what is shared.
-ghost use Rattle.std.specs.Prelude.{◌≡◌, ◌≢◌, ℕ, ◌≤◌, true, [], Option, None, Some, IfSome};
+ghost use Rattle.std.specs.Prelude.{◌≡◌, ◌≢◌, ℕ, ◌≤◌, [], Option, None, Some};
 ghost use Rattle.ea_model.specs.Content.{Content};
 ghost use Rattle.ea_model.specs.Instance.{owner_of};
-ghost use Rattle.ea_machine.specs.Alike.{HasNoAlike, IsNode, IsSpot};
+ghost use Rattle.ea_machine.specs.Alike.{HasNoAlike, IsSpot};
 ghost use Rattle.ea_machine.specs.Guards.{IsUnlinkedAt};
 ghost use Rattle.ea_machine.specs.Nodes.{first_node, spot_named};
 ghost use Rattle.ea_machine.specs.Owners.{Absent, Busy, Employed};
@@ -11,10 +11,11 @@ ghost use Rattle.ea_machine.specs.Rows.{Got, Head, Home, Look, Push, Saw, SendHo
 ghost use Rattle.ea_machine.specs.Rows.{TakeAll, TakeLink, TakeTry};
 ghost use Rattle.ea_machine.specs.Rows as rows;
 ghost use Rattle.ea_shared.specs.Carriers as carriers;
-ghost use Rattle.ea_shared.specs.Carriers.{CountsNone, HasReturned, IsCarrier, IsCollecting};
+ghost use Rattle.ea_shared.specs.Carriers.{CountsNone, HasReturned, IsCarrierOf, IsCollecting};
 ghost use Rattle.ea_shared.specs.Carriers.{IsEmptied, IsFor, IsLeaving, IsPooled, IsPooledBy};
-ghost use Rattle.ea_shared.specs.Carriers.{SettlesEmptied};
-ghost use Rattle.ea_shared.specs.Calls.{Did, IsWanted};
+ghost use Rattle.ea_shared.specs.Carriers.{SettlesEmptied, StandsAt};
+ghost use Rattle.ea_shared.specs.Calls.{CallerIs, Did, IsName, IsNodeOf, IsOneOf, IsWanted};
+ghost use Rattle.ea_shared.specs.Calls.{Migrates, SharesSo};
 ghost use Rattle.ea_shared.specs.Links.{told_by};
 
 use crate::link::Link;
@@ -40,8 +41,8 @@ pub trait Shared {
     /// Takes the whole queue of `me`, to walk it: answers its newest node, None exactly where the
     /// queue is empty.
     fn take_all(&mut self, me: u32) -> Option<Node>
-        requires scheduler { (1 ≤ me) × (me ≤ (told self.old).schedulers) }
-        requires walked { IfSome (told self.old).shared (λ s. s.rests me ≡ []) }
+        requires scheduler { IsOneOf me (told self.old) }
+        requires walked { SharesSo (told self.old) (λ s. s.rests me ≡ []) }
         requires wanted { IsWanted me TakeAll (told self.old) }
         ensures stays { stays self.old self.new }
         ensures row { Did me TakeAll (Head result) (told self.old) (told self.new) };
@@ -50,19 +51,19 @@ pub trait Shared {
     /// isn't linked yet, and it stays next. Else the node is passed, and the answer is the next
     /// older node, or `End` where there is none.
     fn take_link(&mut self, me: u32, node: Node) -> Link
-        requires scheduler { (1 ≤ me) × (me ≤ (told self.old).schedulers) }
-        requires node { IsNode (told self.old).schedulers (told self.old).greatest node }
-        requires next { IfSome (told self.old).shared (λ s. first_node (s.rests me) ≡ Some node) }
-        requires walks { IfSome (told self.old).caller (λ x. x.actor.next ≡ Some node) }
+        requires scheduler { IsOneOf me (told self.old) }
+        requires node { IsNodeOf node (told self.old) }
+        requires next { SharesSo (told self.old) (λ s. first_node (s.rests me) ≡ Some node) }
+        requires walks { CallerIs (told self.old) (λ x. x.actor.next ≡ Some node) }
         requires wanted { IsWanted me TakeLink (told self.old) }
         ensures stays { stays self.old self.new }
         ensures row { Did me TakeLink (told_by result) (told self.old) (told self.new) };
 
     /// Reads the owner word of a carrier.
     fn look(&mut self, me: u32, carrier: u32) -> OwnerWord
-        requires scheduler { (1 ≤ me) × (me ≤ (told self.old).schedulers) }
-        requires migrates { (told self.old).migrates ≡ true }
-        requires carrier { IsCarrier (told self.old).schedulers carrier }
+        requires scheduler { IsOneOf me (told self.old) }
+        requires migrates { Migrates (told self.old) }
+        requires carrier { IsCarrierOf carrier (told self.old) }
         requires wanted { IsWanted me (Look carrier) (told self.old) }
         ensures stays { stays self.old self.new }
         ensures row { Did me (Look carrier) (Saw result) (told self.old) (told self.new) };
@@ -71,11 +72,11 @@ pub trait Shared {
     /// pool, down from the carrier's: looks at these would come to nothing. It is the carrier's own
     /// where the object doesn't know of any, as where others step beside the caller.
     fn last_counted(&self, carrier: u32) -> u32
-        requires migrates { (told self.now).migrates ≡ true }
-        requires carrier { IsCarrier (told self.now).schedulers carrier }
+        requires migrates { Migrates (told self.now) }
+        requires carrier { IsCarrierOf carrier (told self.now) }
         ensures upto { result ≤ carrier }
-        ensures uncounted { IfSome (told self.now).shared (CountsNone result carrier) }
-        ensures beside { IfSome (told self.now).caller (λ _. result ≡ carrier) }
+        ensures uncounted { SharesSo (told self.now) (CountsNone result carrier) }
+        ensures beside { CallerIs (told self.now) (λ _. result ≡ carrier) }
     {
         carrier
     }
@@ -83,9 +84,9 @@ pub trait Shared {
     /// Makes a carrier busy that `me` has in the pool, if its owner word is still the one seen:
     /// then its content comes to the caller.
     fn busy_try(&mut self, me: u32, carrier: u32, seen: OwnerWord) -> Tried<Self::Content>
-        requires scheduler { (1 ≤ me) × (me ≤ (told self.old).schedulers) }
-        requires migrates { (told self.old).migrates ≡ true }
-        requires carrier { IsCarrier (told self.old).schedulers carrier }
+        requires scheduler { IsOneOf me (told self.old) }
+        requires migrates { Migrates (told self.old) }
+        requires carrier { IsCarrierOf carrier (told self.old) }
         requires seen { IsPooledBy me seen }
         requires wanted { IsWanted me (BusyTry carrier seen) (told self.old) }
         ensures stays { stays self.old self.new }
@@ -95,11 +96,11 @@ pub trait Shared {
     /// Puts a busy carrier back into the pool, with its content, whose largest gap has that many
     /// units.
     fn settle_pooled(&mut self, me: u32, carrier: u32, content: Self::Content, largest: u32)
-        requires scheduler { (1 ≤ me) × (me ≤ (told self.old).schedulers) }
-        requires migrates { (told self.old).migrates ≡ true }
-        requires carrier { IsCarrier (told self.old).schedulers carrier }
+        requires scheduler { IsOneOf me (told self.old) }
+        requires migrates { Migrates (told self.old) }
+        requires carrier { IsCarrierOf carrier (told self.old) }
         requires content { IsFor carrier largest (Self.Content.content content) }
-        requires busy { IfSome (told self.old).shared (λ s. s.places carrier ≡ Busy me) }
+        requires busy { StandsAt carrier (Busy me) (told self.old) }
         requires wanted { IsWanted me (Settle (Self.Content.content content)) (told self.old) }
         ensures stays { stays self.old self.new }
         ensures row { Did me (Settle (Self.Content.content content)) Done (told self.old)
@@ -107,11 +108,11 @@ pub trait Shared {
 
     /// Employs a busy carrier that has no blocks; its content stays with the caller.
     fn settle_employed(&mut self, me: u32, carrier: u32)
-        requires scheduler { (1 ≤ me) × (me ≤ (told self.old).schedulers) }
-        requires migrates { (told self.old).migrates ≡ true }
-        requires carrier { IsCarrier (told self.old).schedulers carrier }
-        requires busy { IfSome (told self.old).shared (λ s. s.places carrier ≡ Busy me) }
-        requires wanted { IfSome (told self.old).caller (SettlesEmptied me carrier) }
+        requires scheduler { IsOneOf me (told self.old) }
+        requires migrates { Migrates (told self.old) }
+        requires carrier { IsCarrierOf carrier (told self.old) }
+        requires busy { StandsAt carrier (Busy me) (told self.old) }
+        requires wanted { CallerIs (told self.old) (SettlesEmptied me carrier) }
         ensures stays { stays self.old self.new }
         ensures row { (x : Content) → IsEmptied carrier x → IsWanted me (Settle x) (told self.old)
             → Did me (Settle x) Done (told self.old) (told self.new) };
@@ -119,11 +120,11 @@ pub trait Shared {
     /// Puts a carrier that `me` employs into the pool, with its content, whose largest gap has that
     /// many units.
     fn abandon(&mut self, me: u32, carrier: u32, content: Self::Content, largest: u32)
-        requires scheduler { (1 ≤ me) × (me ≤ (told self.old).schedulers) }
-        requires migrates { (told self.old).migrates ≡ true }
-        requires carrier { IsCarrier (told self.old).schedulers carrier }
+        requires scheduler { IsOneOf me (told self.old) }
+        requires migrates { Migrates (told self.old) }
+        requires carrier { IsCarrierOf carrier (told self.old) }
         requires content { IsFor carrier largest (Self.Content.content content) }
-        requires employed { IfSome (told self.old).shared (λ s. s.places carrier ≡ Employed me) }
+        requires employed { StandsAt carrier (Employed me) (told self.old) }
         requires wanted { IsWanted me (Abandon (Self.Content.content content)) (told self.old) }
         ensures stays { stays self.old self.new }
         ensures row { Did me (Abandon (Self.Content.content content)) Done (told self.old)
@@ -132,9 +133,9 @@ pub trait Shared {
     /// Employs a pooled carrier, if its owner word is still the one seen: then its content comes to
     /// the caller.
     fn fetch_try(&mut self, me: u32, carrier: u32, seen: OwnerWord) -> Tried<Self::Content>
-        requires scheduler { (1 ≤ me) × (me ≤ (told self.old).schedulers) }
-        requires migrates { (told self.old).migrates ≡ true }
-        requires carrier { IsCarrier (told self.old).schedulers carrier }
+        requires scheduler { IsOneOf me (told self.old) }
+        requires migrates { Migrates (told self.old) }
+        requires carrier { IsCarrierOf carrier (told self.old) }
         requires seen { IsPooled (told self.old).schedulers seen }
         requires wanted { IsWanted me (FetchTry carrier seen) (told self.old) }
         ensures stays { stays self.old self.new }
@@ -143,11 +144,11 @@ pub trait Shared {
 
     /// Employs a new carrier, with a number of `me`.
     fn create(&mut self, me: u32, carrier: u32)
-        requires scheduler { (1 ≤ me) × (me ≤ (told self.old).schedulers) }
-        requires migrates { (told self.old).migrates ≡ true }
+        requires scheduler { IsOneOf me (told self.old) }
+        requires migrates { Migrates (told self.old) }
         requires own { owner_of carrier ≡ me }
-        requires carrier { IsCarrier (told self.old).schedulers carrier }
-        requires absent { IfSome (told self.old).shared (λ s. s.places carrier ≡ Absent) }
+        requires carrier { IsCarrierOf carrier (told self.old) }
+        requires absent { StandsAt carrier Absent (told self.old) }
         requires wanted { IsWanted me (Create carrier) (told self.old) }
         ensures stays { stays self.old self.new }
         ensures row { Did me (Create carrier) Done (told self.old) (told self.new) };
@@ -155,12 +156,12 @@ pub trait Shared {
     /// Marks a carrier without blocks that `me` employs as returning to its owner, another
     /// instance; its content goes home.
     fn send_home(&mut self, me: u32, carrier: u32, content: Self::Content, owner: u32)
-        requires scheduler { (1 ≤ me) × (me ≤ (told self.old).schedulers) }
-        requires migrates { (told self.old).migrates ≡ true }
-        requires carrier { IsCarrier (told self.old).schedulers carrier }
+        requires scheduler { IsOneOf me (told self.old) }
+        requires migrates { Migrates (told self.old) }
+        requires carrier { IsCarrierOf carrier (told self.old) }
         requires content { IsEmptied carrier (Self.Content.content content) }
         requires owner { (owner ≡ owner_of carrier) × (owner ≢ me) }
-        requires employed { IfSome (told self.old).shared (λ s. s.places carrier ≡ Employed me) }
+        requires employed { StandsAt carrier (Employed me) (told self.old) }
         requires wanted { IsWanted me (SendHome (Self.Content.content content)) (told self.old) }
         ensures stays { stays self.old self.new }
         ensures row { Did me (SendHome (Self.Content.content content)) Done (told self.old)
@@ -168,24 +169,24 @@ pub trait Shared {
 
     /// Deallocates a carrier that `me` owns and employs, which has no blocks.
     fn clear_own(&mut self, me: u32, carrier: u32)
-        requires scheduler { (1 ≤ me) × (me ≤ (told self.old).schedulers) }
-        requires migrates { (told self.old).migrates ≡ true }
-        requires carrier { IsCarrier (told self.old).schedulers carrier }
+        requires scheduler { IsOneOf me (told self.old) }
+        requires migrates { Migrates (told self.old) }
+        requires carrier { IsCarrierOf carrier (told self.old) }
         requires own { owner_of carrier ≡ me }
-        requires employed { IfSome (told self.old).shared (λ s. s.places carrier ≡ Employed me) }
-        requires leaves { IfSome (told self.old).caller IsLeaving }
+        requires employed { StandsAt carrier (Employed me) (told self.old) }
+        requires leaves { CallerIs (told self.old) IsLeaving }
         requires wanted { IsWanted me (Clear carrier) (told self.old) }
         ensures stays { stays self.old self.new }
         ensures row { Did me (Clear carrier) (Home None) (told self.old) (told self.new) };
 
     /// Deallocates a carrier that has returned to `me`, its owner: answers its content.
     fn clear_returned(&mut self, me: u32, carrier: u32) -> Self::Content
-        requires scheduler { (1 ≤ me) × (me ≤ (told self.old).schedulers) }
-        requires migrates { (told self.old).migrates ≡ true }
-        requires carrier { IsCarrier (told self.old).schedulers carrier }
+        requires scheduler { IsOneOf me (told self.old) }
+        requires migrates { Migrates (told self.old) }
+        requires carrier { IsCarrierOf carrier (told self.old) }
         requires own { owner_of carrier ≡ me }
-        requires returned { IfSome (told self.old).shared (λ s. HasReturned me (s.places carrier)) }
-        requires collects { IfSome (told self.old).caller (IsCollecting carrier) }
+        requires returned { SharesSo (told self.old) (λ s. HasReturned me (s.places carrier)) }
+        requires collects { CallerIs (told self.old) (IsCollecting carrier) }
         requires wanted { IsWanted me (Clear carrier) (told self.old) }
         ensures stays { stays self.old self.new }
         ensures row { Did me (Clear carrier) (Home (Some (Self.Content.content result)))
@@ -193,10 +194,10 @@ pub trait Shared {
 
     /// Puts the node in front of the queue of instance `to`, not linked yet to the older ones.
     fn push(&mut self, me: u32, to: u32, node: Node)
-        requires scheduler { (1 ≤ me) × (me ≤ (told self.old).schedulers) }
-        requires target { (1 ≤ to) × (to ≤ (told self.old).schedulers) }
-        requires node { IsNode (told self.old).schedulers (told self.old).greatest node }
-        requires nowhere { IfSome (told self.old).shared (HasNoAlike node) }
+        requires scheduler { IsOneOf me (told self.old) }
+        requires target { IsOneOf to (told self.old) }
+        requires node { IsNodeOf node (told self.old) }
+        requires nowhere { SharesSo (told self.old) (HasNoAlike node) }
         requires wanted { IsWanted me (Push node to) (told self.old) }
         ensures stays { stays self.old self.new }
         ensures row { Did me (Push node to) Done (told self.old) (told self.new) };
@@ -204,20 +205,20 @@ pub trait Shared {
     /// Links the node, which was pushed to instance `to`, to the older ones: a walk passes it only
     /// from then on.
     fn link(&mut self, me: u32, to: u32, node: Node)
-        requires scheduler { (1 ≤ me) × (me ≤ (told self.old).schedulers) }
-        requires target { (1 ≤ to) × (to ≤ (told self.old).schedulers) }
-        requires node { IsNode (told self.old).schedulers (told self.old).greatest node }
-        requires unlinked { IfSome (told self.old).shared (IsUnlinkedAt node to) }
+        requires scheduler { IsOneOf me (told self.old) }
+        requires target { IsOneOf to (told self.old) }
+        requires node { IsNodeOf node (told self.old) }
+        requires unlinked { SharesSo (told self.old) (IsUnlinkedAt node to) }
         requires wanted { IsWanted me (rows.Link node to) (told self.old) }
         ensures stays { stays self.old self.new }
         ensures row { Did me (rows.Link node to) Done (told self.old) (told self.new) };
 
     /// Gives the name, whose block begins at the spot, to whoever takes it.
     fn give(&mut self, me: u32, name: u32, spot: Spot)
-        requires scheduler { (1 ≤ me) × (me ≤ (told self.old).schedulers) }
-        requires name { (1 ≤ name) × (name ≤ (told self.old).greatest) }
+        requires scheduler { IsOneOf me (told self.old) }
+        requires name { IsName name (told self.old) }
         requires spot { IsSpot (told self.old).schedulers spot }
-        requires fresh { IfSome (told self.old).shared (λ s. spot_named name s.given ≡ None) }
+        requires fresh { SharesSo (told self.old) (λ s. spot_named name s.given ≡ None) }
         requires wanted { IsWanted me (Give (record { name = name; spot = spot })) (told self.old) }
         ensures stays { stays self.old self.new }
         ensures row { Did me (Give (record { name = name; spot = spot })) Done (told self.old)
@@ -226,8 +227,8 @@ pub trait Shared {
     /// Takes the name, if it is given: answers where its block begins, None exactly where it isn't
     /// given.
     fn take_try(&mut self, me: u32, name: u32) -> Option<Spot>
-        requires scheduler { (1 ≤ me) × (me ≤ (told self.old).schedulers) }
-        requires name { (1 ≤ name) × (name ≤ (told self.old).greatest) }
+        requires scheduler { IsOneOf me (told self.old) }
+        requires name { IsName name (told self.old) }
         requires wanted { IsWanted me (TakeTry name) (told self.old) }
         ensures stays { stays self.old self.new }
         ensures row { Did me (TakeTry name) (Got result) (told self.old) (told self.new) };
