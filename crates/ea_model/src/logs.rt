@@ -90,59 +90,41 @@ fn file(reports: &mut List<Reports>, entry: Entry<Reports>)
     }
 }
 
+/// An entry of one of these forms with the same fields, or, where it is of none of them, by the
+/// arms.
+macro_rules! same_entry {
+    ($entry:ident, { $($arms:tt)* }, $($form:ident { $($field:ident),* }),*) => {
+        match $entry {
+            $($arms)*
+            $(Entry::$form { $($field),* } => Entry::$form { $($field),* },)*
+        }
+    };
+}
+
 /// The entry as a log keeps it: its reports, if it has any, stand at `at`.
 fn kept(entry: Entry<Reports>, at: usize) -> Entry<usize>
     ensures { result ≡ kept_at at entry }
 {
-    match entry {
-        Entry::Alloc { name, place } => Entry::Alloc { name, place },
-        Entry::AllocFail {
-            name,
-            need,
-            looked,
-            why,
-        } => Entry::AllocFail {
-            name,
-            need,
-            looked,
-            why,
+    same_entry!(
+        entry,
+        {
+            Entry::Info { .. } => Entry::Info { reports: at },
+            Entry::Idle => Entry::Idle,
         },
-        Entry::Free { name } => Entry::Free { name },
-        Entry::FreeQueued { name, to } => Entry::FreeQueued { name, to },
-        Entry::FreeSkipped { name } => Entry::FreeSkipped { name },
-        Entry::ReallocHere { old, fresh, place } => Entry::ReallocHere { old, fresh, place },
-        Entry::ReallocMoved { old, fresh, place } => Entry::ReallocMoved { old, fresh, place },
-        Entry::ReallocQueued {
-            old,
-            fresh,
-            place,
-            to,
-        } => Entry::ReallocQueued {
-            old,
-            fresh,
-            place,
-            to,
-        },
-        Entry::ReallocFail {
-            old,
-            fresh,
-            need,
-            looked,
-            why,
-        } => Entry::ReallocFail {
-            old,
-            fresh,
-            need,
-            looked,
-            why,
-        },
-        Entry::ReallocSkipped { old, fresh } => Entry::ReallocSkipped { old, fresh },
-        Entry::Give { name, to } => Entry::Give { name, to },
-        Entry::GiveSkipped { name, to } => Entry::GiveSkipped { name, to },
-        Entry::Take { name } => Entry::Take { name },
-        Entry::TakeAbsent { name, tries } => Entry::TakeAbsent { name, tries },
-        Entry::Info { .. } => Entry::Info { reports: at },
-        Entry::Idle => Entry::Idle,
-        Entry::Stopped { steps } => Entry::Stopped { steps },
-    }
+        Alloc { name, place },
+        AllocFail { name, need, looked, why },
+        Free { name },
+        FreeQueued { name, to },
+        FreeSkipped { name },
+        ReallocHere { old, fresh, place },
+        ReallocMoved { old, fresh, place },
+        ReallocQueued { old, fresh, place, to },
+        ReallocFail { old, fresh, need, looked, why },
+        ReallocSkipped { old, fresh },
+        Give { name, to },
+        GiveSkipped { name, to },
+        Take { name },
+        TakeAbsent { name, tries },
+        Stopped { steps }
+    )
 }
