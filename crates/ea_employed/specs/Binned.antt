@@ -43,6 +43,6 @@ abbrev pub HaveRoom : Option HeldGaps → Type 0
 HaveRoom bins = IfSome bins (λ b. 0 < b.room)
 
 -- the bins, where there are any, have places for more gaps than carriers of that many units have: a
--- gap has 6 units at least, and so has a block between two
+-- gap has `MIN_BLOCK` units at least, and so has a block between two
 abbrev pub HavePlaces : ℕ → Option HeldGaps → Type 0
 HavePlaces units bins = IfSome bins (λ b. units < 2 * MIN_BLOCK * (length b.held + b.room))

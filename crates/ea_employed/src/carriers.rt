@@ -304,7 +304,7 @@ impl Carriers {
     }
 
     /// The block at the offset in the carrier that was found has `need` units and this name from
-    /// now on. It gives back at least 6 units. It takes no memory.
+    /// now on. It gives back at least `MIN_BLOCK` units. It takes no memory.
     pub fn shrink(&mut self, found: Found, offset: u32, need: u32, name: u32)
         requires laid { AreLaid self.old.contents }
         requires found { StandsAmong self.old.contents found }
@@ -328,8 +328,8 @@ impl Carriers {
     }
 
     /// The block at the offset in the carrier that was found takes of the gap directly after it
-    /// what it needs to have `need` units, or the whole gap where fewer than 6 units would be left
-    /// of it, and has this name from now on. Answers its units. It takes no memory.
+    /// what it needs to have `need` units, or the whole gap where fewer than `MIN_BLOCK` units would
+    /// be left of it, and has this name from now on. Answers its units. It takes no memory.
     pub fn grow(&mut self, found: Found, offset: u32, need: u32, name: u32) -> u32
         requires laid { AreLaid self.old.contents }
         requires found { StandsAmong self.old.contents found }

@@ -9,7 +9,7 @@ use Rattle.ea_model.specs.Region.{AreApart, Laid}
 use Rattle.ea_model.specs.Instance.{Instance, employed, first_number, segments}
 use Rattle.ea_laws.specs.Kept.{ContentsApart, HasNumberIn, HasOneBlock, IsRising, IsWhole}
 
--- the units of each block; a page has 512 units
+-- the units of each block
 abbrev pub extents_in : Content → List Extent
 extents_in c = map (λ b. record { first = PAGE_UNITS * c.base + b.offset; units = b.size }) c.blocks
 

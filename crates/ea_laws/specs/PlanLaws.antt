@@ -38,7 +38,7 @@ pub record IsGrown (s : Settings) (n units : ℕ) : Type 0 where
   pub full : s.mbcgs ≤ n → units ≡ largest_size s
 
 -- the pages of a multiblock carrier that should have n at least: by the rule `powers` the least
--- power of two that is as great, 64 at least; else n
+-- power of two that is as great, `MIN_POWER_PAGES` at least; else n
 abbrev pub IsRounded : Settings → ℕ → ℕ → Type 0
 IsRounded s n pages =
     ((s.rules.powers ≡ true) × IsNextPowerOfTwo (max MIN_POWER_PAGES n) pages)
@@ -64,7 +64,8 @@ abbrev pub PlansSize : Type 0
 PlansSize = (i : Instance) (need : ℕ) (p : CarrierPlan) → 1 ≤ i.settings.mbcgs
     → plan i need ≡ Ok p → IsSized i need p
 
--- by the rule `powers` a multiblock carrier has a power of two of pages, 64 at least, or the least
+-- by the rule `powers` a multiblock carrier has a power of two of pages, `MIN_POWER_PAGES` at least,
+-- or the least
 abbrev pub PlansPowers : Type 0
 PlansPowers = (i : Instance) (need : ℕ) (p : CarrierPlan) → i.settings.rules.powers ≡ true
     → p.single ≡ false → plan i need ≡ Ok p

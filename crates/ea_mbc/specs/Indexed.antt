@@ -1,5 +1,5 @@
--- The gaps of a carrier by slots. A gap has 6 units at least, and so has the block between two
--- gaps: no two gaps begin in the same slot. This file serves private functions and invariants.
+-- The gaps of a carrier by slots. A gap has `MIN_BLOCK` units at least, and so has the block between
+-- two gaps: no two gaps begin in the same slot. This file serves private functions and invariants.
 use Rattle.std.specs.Prelude.{◌≡◌, ℕ, ◌+◌, ◌*◌, ◌/◌, ◌<◌, ◌≤◌, if◌then◌else◌, ◌==◌}
 use Rattle.std.specs.Prelude.{List, [], ◌∷◌, All, Contains, length, replicate, slice_index}
 use Rattle.std.specs.Prelude.{slice_set}
@@ -69,8 +69,8 @@ pub record Indexed (units : ℕ) (s : Slots) (gs : List Gap) : Type 0 where
       → Contains gs (record { offset = slice_index s.offsets k; size = slice_index s.sizes k })
       × (slot_of (slice_index s.offsets k) ≡ k)
 
--- from `at` up to `end` the gaps lie in order, each of 6 units at least, with as many between any
--- two
+-- from `at` up to `end` the gaps lie in order, each of `MIN_BLOCK` units at least, with as many
+-- between any two
 abbrev pub AreApart : ℕ → ℕ → List Gap → Type 0
 AreApart at end [] = Unit {0}
 AreApart at end (g ∷ gs) = (at ≤ g.offset) × (MIN_BLOCK ≤ g.size) × (g.offset + g.size ≤ end)

@@ -61,7 +61,8 @@ pub struct Resized {
 }
 
 /// A carrier of many blocks. Contracts see it as its content: number, owner, base, birth, units and
-/// the blocks by rising offset. A block has an even number of units, 6 at least, and so has a gap.
+/// the blocks by rising offset. A block has an even number of units, `MIN_BLOCK` at least, and so has
+/// a gap.
 #[derive(Drop)]
 pub struct Mbc {
     number: u32,
@@ -166,7 +167,7 @@ impl Mbc {
     }
 
     /// Puts a block at the front of a gap of its own. It has `need` units, or the whole gap where
-    /// fewer than 6 units would be left of it. It takes no memory.
+    /// fewer than `MIN_BLOCK` units would be left of it. It takes no memory.
     pub fn place(&mut self, gap: Gap, need: u32, name: u32) -> Placed
         requires gap { gap_at (gaps_of self.old) gap.offset ≡ gap.size }
         requires fits { need ≤ gap.size }
@@ -238,7 +239,7 @@ impl Mbc {
     }
 
     /// The block at `offset` has `need` units and this name from now on. What it gives back, at
-    /// least 6 units, is one gap with the gap directly after it. It takes no memory.
+    /// least `MIN_BLOCK` units, is one gap with the gap directly after it. It takes no memory.
     pub fn shrink(&mut self, offset: u32, need: u32, name: u32) -> Resized
         requires begins { IsSome (block_at self.old.blocks offset) }
         requires fewer { need + MIN_BLOCK ≤ size_of (block_at self.old.blocks offset) }
@@ -276,9 +277,9 @@ impl Mbc {
     }
 
     /// The block at `offset` takes of the gap directly after it what it needs to have `need` units,
-    /// or the whole gap where fewer than 6 units would be left of it, and has this name from now
-    /// on. Returns None, and changes nothing, exactly when block and gap have fewer than `need`
-    /// units. It takes no memory.
+    /// or the whole gap where fewer than `MIN_BLOCK` units would be left of it, and has this name
+    /// from now on. Returns None, and changes nothing, exactly when block and gap have fewer than
+    /// `need` units. It takes no memory.
     pub fn grow(&mut self, offset: u32, need: u32, name: u32) -> Option<Resized>
         requires begins { IsSome (block_at self.old.blocks offset) }
         requires more { size_of (block_at self.old.blocks offset) < need }

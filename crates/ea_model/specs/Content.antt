@@ -34,7 +34,7 @@ abbrev pub gaps : ℕ → ℕ → List BlockAt → List Gap
 gaps at end [] = gap at end
 gaps at end (b ∷ bs) = gap at b.offset ++ gaps (b.offset + b.size) end bs
 
--- the gaps of a carrier, by rising offset; its first 8 units are its header
+-- the gaps of a carrier, by rising offset; its first units are its header
 abbrev pub gaps_of : Content → List Gap
 gaps_of c = gaps HEADER_UNITS c.units c.blocks
 
@@ -83,7 +83,7 @@ gap_behind c offset = gap_at (gaps_of c) (end_of c.blocks offset)
 abbrev pub named : BlockAt → Block
 named b = record { name = b.name; size = b.size }
 
--- the units that a block of this need takes of a gap: a rest of fewer than 6 stays in the block
+-- the units that a block of this need takes of a gap: a rest below `MIN_BLOCK` stays in the block
 abbrev pub taken_of : ℕ → ℕ → ℕ
 taken_of g need = if nat_le MIN_BLOCK (g - need) then need else g
 
@@ -140,13 +140,13 @@ is_empty_multi c = is_multi c.kind && is_nil c.blocks
 abbrev pub is_vacant : Content → Bool
 is_vacant c = can_go c.kind && is_nil c.blocks
 
--- a gap is empty, or has an even number of units, 6 at least
+-- a gap is empty, or has an even number of units, `MIN_BLOCK` at least
 pub record IsGapSize (n : ℕ) : Type 0 where
   pub even : n % 2 ≡ 0
   pub whole : 0 < n → MIN_BLOCK ≤ n
 
--- the blocks lie one after another from `at` up to `end`, even and of 6 units at least, with whole
--- gaps between them
+-- the blocks lie one after another from `at` up to `end`, even and of `MIN_BLOCK` units at least,
+-- with whole gaps between them
 abbrev pub Tiled : ℕ → ℕ → List BlockAt → Type 0
 Tiled at end [] = (at ≤ end) × IsGapSize (end - at)
 Tiled at end (b ∷ bs) = (at ≤ b.offset) × IsGapSize (b.offset - at) × (MIN_BLOCK ≤ b.size)

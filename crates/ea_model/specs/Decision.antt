@@ -58,7 +58,7 @@ abbrev pub decision : Settings → ℕ → ℕ → Where → Decision
 decision s old fresh at = if s.ramv then Move else at_home s old fresh at
 
 -- the units of a block that is to have `fresh` instead of `old`, where that is decided: what is
--- left of a gap below 6 units stays in the block
+-- left of a gap below `MIN_BLOCK` units stays in the block
 abbrev pub size_after : Decision → ℕ → ℕ → Where → ℕ
 size_after Stay old fresh at = old
 size_after ShrinkHere old fresh at = fresh

@@ -23,8 +23,8 @@ SHARED_POWER = 6
 abbrev pub SHARED_BINS : ℕ
 SHARED_BINS = 26
 
--- the bin of a size: one for each size below 64, then one for 64 to 127, one for 128 to 255 and so
--- on, to twice the size each
+-- the bin of a size: one for each size below `SHARED`, then one for the sizes from each power of
+-- two on that are below the next one
 unfoldable pub bin_of : ℕ → ℕ
 bin_of size = if nat_lt size SHARED then size else (SHARED - 1) + powers size SHARED_POWER SHARED_BINS
 

@@ -69,7 +69,7 @@ first_number instance = NUMBERS * (instance - 1) + 1
 abbrev pub owner_of : ℕ → ℕ
 owner_of number = (number - 1) / NUMBERS + 1
 
--- a new carrier; a page has 512 units
+-- a new carrier
 abbrev pub created_content : ℕ → Kind → CarrierPlan → Content
 created_content instance kind p = record {
   number = p.number;
@@ -99,7 +99,7 @@ main_content s instance first = created_content instance Main (main_plan s insta
 abbrev pub main_carriers : Settings → ℕ → ℕ → List Content
 main_carriers s instance first = if nat_lt 0 s.mmbcs then main_content s instance first ∷ [] else []
 
--- what its owner knows of a carrier; a page has 512 units
+-- what its owner knows of a carrier
 abbrev pub own_of : Content → OwnCarrier
 own_of c = record { number = c.number; base = c.base; pages = c.units / PAGE_UNITS }
 
@@ -172,7 +172,7 @@ power_from zero p n = p
 power_from (suc k) p n = if nat_le n p then p else power_from k (2 * p) n
 
 -- the pages of a multiblock carrier that should have these at least: by the rule `powers` the least
--- power of two, 64 at least
+-- power of two, `MIN_POWER_PAGES` at least
 abbrev pub rounded : Settings → ℕ → ℕ
 rounded s pages = if s.rules.powers then power_from pages MIN_POWER_PAGES pages else pages
 
@@ -239,7 +239,7 @@ creating i p = record i {
   created = p.birth;
 }
 
--- a new singleblock carrier: its block stands directly behind its header of 8 units
+-- a new singleblock carrier: its block stands directly behind its header
 abbrev pub created_single : ℕ → CarrierPlan → ℕ → ℕ → Content
 created_single instance p size name =
     record (created_content instance Single p) {
@@ -407,8 +407,7 @@ carrier_line employer c = record {
   largest = largest (gaps_of c);
 }
 
--- the sums over carriers whose blocks are all held, so that all their units are live; a carrier's
--- header has 8 units
+-- the sums over carriers whose blocks are all held, so that all their units are live
 abbrev pub totals : List Content → Totals
 totals cs = record {
   carriers = length cs;

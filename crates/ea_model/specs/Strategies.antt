@@ -27,7 +27,7 @@ use Rattle.ea_model.specs.GoodFit.{is_inspected}
 use Rattle.ea_model.specs.declared.settings.Settings.{Settings}
 use Rattle.ea_model.specs.declared.units.TheConstants.{PAGE_UNITS}
 
--- a gap of a carrier; a page has 512 units
+-- a gap of a carrier
 abbrev pub candidate : Content → Gap → Candidate
 candidate c g = record {
   number = c.number;

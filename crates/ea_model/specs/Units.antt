@@ -15,7 +15,7 @@ abbrev pub even : ℕ → ℕ
 even n = n + n % 2
 
 -- the units of a request: those of a block's header and the bytes in whole units, an even number
--- and 6 at least
+-- and `MIN_BLOCK` at least
 abbrev pub need_of : ℕ → ℕ
 need_of bytes = max MIN_BLOCK (even (BLOCK_HEADER + (bytes + (UNIT_BYTES - 1)) / UNIT_BYTES))
 

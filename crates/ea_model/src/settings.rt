@@ -52,7 +52,7 @@ pub enum Letter {
 /// The rules of a node that hold in a run. A line of recorded operations sets them, and no flag.
 #[derive(Debug, Clone, Copy, PartialEq, Eq)]
 pub struct Rules {
-    /// A new multiblock carrier has a power of two of pages, 64 at least.
+    /// A new multiblock carrier has a power of two of pages, `MIN_POWER_PAGES` at least.
     pub powers: bool,
     /// A segment is placed at the end of the highest free run that holds it.
     pub falling: bool,

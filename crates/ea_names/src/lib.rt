@@ -1,5 +1,5 @@
 //! A table of names with the spots of their blocks. Places are made for names in groups, each of
-//! 512 names that follow each other; holding a name that has a place takes no memory. Each call
+//! `GROUP` names that follow each other; holding a name that has a place takes no memory. Each call
 //! takes constant time, but for those that make a table or the places of a group.
 #![tactic(auto)]
 

@@ -33,7 +33,7 @@ pub fn run_super<R: Threads + Wait + Sync, S: Source, O: Sink, E: Sink>(
     // thread gets at that point, which has the requests of each section once each, in their order
     // and under its scheduler, and no other calls; and the totals of what the history leaves. At
     // each point of it the segments that are taken lie in the region and have no page in common,
-    // there are 1024 of them at most, and each goes back once at most.
+    // there are `MAX_SEGMENTS` of them at most, and each goes back once at most.
     ensures { Answered shared_region words.now
         (end_of S.left S.faults source.old source.new)
         (end_of O.taken O.faults out.old out.new) (end_of E.taken E.faults err.old err.new) result }
