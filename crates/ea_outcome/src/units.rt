@@ -15,8 +15,7 @@ use ea_shared::Rested;
 impl<'a, 't, H: Rested<Content = Mbc>> AtRest<'a, 't, H> {
     /// The units of the block at the spot, where its carrier is.
     fn units_at(&self, spot: Spot) -> u64
-        requires schedulers {
-            (H.shared self.now.shared.now).schedulers ≡ length self.now.schedulers.now }
+        requires schedulers { (H.shared self.now.shared.now).schedulers ≡ length self.now.schedulers.now }
         requires block { HasBlock self.now.migrates
             (H.shared self.now.shared.now).places self.now.schedulers.now spot }
         ensures units { result
@@ -35,8 +34,7 @@ impl<'a, 't, H: Rested<Content = Mbc>> AtRest<'a, 't, H> {
 
     /// The units of the blocks at the spots of a group of names.
     fn units_of(&self, spots: &[Option<Spot>]) -> u64
-        requires schedulers {
-            (H.shared self.now.shared.now).schedulers ≡ length self.now.schedulers.now }
+        requires schedulers { (H.shared self.now.shared.now).schedulers ≡ length self.now.schedulers.now }
         requires group { length spots.now ≤ GROUP }
         requires blocks { All (λ s. IfSome s
             (HasBlock self.now.migrates
@@ -57,8 +55,7 @@ impl<'a, 't, H: Rested<Content = Mbc>> AtRest<'a, 't, H> {
 
     /// The units of the blocks of names that a scheduler holds.
     fn units_held(&self, names: &Names) -> u64
-        requires schedulers {
-            (H.shared self.now.shared.now).schedulers ≡ length self.now.schedulers.now }
+        requires schedulers { (H.shared self.now.shared.now).schedulers ≡ length self.now.schedulers.now }
         requires blocks { HaveBlocks self.now.migrates
             (H.shared self.now.shared.now).places self.now.schedulers.now
             names.now.held }
@@ -76,8 +73,7 @@ impl<'a, 't, H: Rested<Content = Mbc>> AtRest<'a, 't, H> {
 
     /// The units of the blocks of given names.
     fn units_given(&self, greatest: u32) -> u64
-        requires schedulers {
-            (H.shared self.now.shared.now).schedulers ≡ length self.now.schedulers.now }
+        requires schedulers { (H.shared self.now.shared.now).schedulers ≡ length self.now.schedulers.now }
         requires greatest { greatest ≡ (H.shared self.now.shared.now).greatest }
         requires given { AreGiven greatest (H.shared self.now.shared.now).named }
         requires blocks { HaveBlocks self.now.migrates
@@ -99,8 +95,7 @@ impl<'a, 't, H: Rested<Content = Mbc>> AtRest<'a, 't, H> {
 
     /// The units of the blocks of held and of given names.
     pub(crate) fn live_units(&self, greatest: u32) -> u64
-        requires schedulers {
-            (H.shared self.now.shared.now).schedulers ≡ length self.now.schedulers.now }
+        requires schedulers { (H.shared self.now.shared.now).schedulers ≡ length self.now.schedulers.now }
         requires greatest { greatest ≡ (H.shared self.now.shared.now).greatest }
         requires given { AreGiven greatest (H.shared self.now.shared.now).named }
         requires live { AreLive self.now.migrates
