@@ -212,7 +212,7 @@ def without_own_strategy(words, letter):
     """The settings that a node tells of an allocator, without `as` where no flag need have set it. A node tells what
     ran: where carriers migrate, `aoffcbf` stands in the place of the allocator's own, which `acul` 0 brings back."""
     settings = Settings.of(words, letter)
-    if not settings.migrates or settings.asked("as") != IN_THEIR_PLACE:
+    if refusal(words) or not settings.migrates or settings.asked("as") != IN_THEIR_PLACE:
         return words
     return [it for pair in pairs(words) if pair[0] != f"+M{letter}as" for it in pair]
 
