@@ -198,8 +198,8 @@ def added(words, letter):
 
 def as_on_a_node(words, letters=EVERY_LETTER):
     """The words for the program under which the allocators of these letters have the strategy and the `acul` that they
-    have on a node with the flags `words`. A value that is joined to its flag becomes a word of its own. What the program
-    would read otherwise is set by flags that come last, which say the same to a node: of `+MBas gf` it makes
+    have on a node with the flags `words`. A value that is joined to its flag becomes a word of its own. What the
+    program would read otherwise is set by flags that come last, which say the same to a node: of `+MBas gf` it makes
     `+MBas gf +MBacul 0`, and of `+MBacul 0` it makes `+MBacul 0 +MBas bf`. Words that are refused are parted alone."""
     words = [word for word, _ in parted(words)]
     if refusal(words):

@@ -304,10 +304,14 @@ class AsOnANode(unittest.TestCase):
         given = without_own_strategy(told, "B")
         self.assertEqual(given, "+MBsbct 512 +MBacul 60".split())
         self.assertEqual(Settings.of(given, "B").all_held(), Settings.of(told, "B").all_held())
-        for more, wanted in (("", "aoffcbf 60"), ("+MBacul 0", "bf 0"), ("+MBas gf", "gf 0"), ("+MBas aoff", "aoff 60")):
+        for more, wanted in (
+            ("", "aoffcbf 60"), ("+MBacul 0", "bf 0"), ("+MBas gf", "gf 0"), ("+MBas aoff", "aoff 60"),
+        ):
             self.assertEqual(ran(" ".join([*given, more]), "B"), wanted)
-        for words in ("+MBas bf +MBacul 0", "+MBas aoffcbf +MBacul 0", "+MBas aoff +MBacul 60", "+MTas af +MTacul 0", ""):
-            self.assertEqual(without_own_strategy(words.split(), (words or "+MB")[2]), words.split())
+        for words in ("+MBas bf +MBacul 0", "+MBas aoffcbf +MBacul 0", "+MBas aoff +MBacul 60", "+MBas gf +MBacul 60",
+                      "+MBas aoffcbf +MBacul x", ""):
+            self.assertEqual(without_own_strategy(words.split(), "B"), words.split())
+        self.assertEqual(without_own_strategy(["+MTas", "af", "+MTacul", "0"], "T"), ["+MTas", "af", "+MTacul", "0"])
 
 
 @unittest.skipUnless(ERL, "there is no Erlang node")
@@ -315,7 +319,8 @@ class Node(unittest.TestCase):
     def told(self, words):
         """The strategy and the limit of each letter on a node of its own, and its schedulers."""
         command = [ERL, "+S", "2:2", *words.split(), "-noshell", "-eval", ASK_NODE]
-        lines = subprocess.run(command, capture_output=True, text=True, timeout=60, check=True).stdout.splitlines()
+        how = {"env": {**os.environ, "ERL_CRASH_DUMP": os.devnull}, "timeout": 60, "check": True}
+        lines = subprocess.run(command, capture_output=True, text=True, **how).stdout.splitlines()
         return dict(zip(EVERY_LETTER, lines)), int(lines[-1])
 
     def test_a_node_has_what_is_said(self):
