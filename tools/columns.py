@@ -2,7 +2,7 @@
 
 COLUMNS = {
     "list": "the list of flags: its file, and the words of --each; as text without what all lists share",
-    "flags": "all its words",
+    "flags": "all its words, as the program takes them",
     "trace": "the file of the trace",
     "type": "the letter of the allocator, of which an input of several has a line for each",
     "ran": "what ran by these flags: the strategy, and its `acul`",

@@ -125,16 +125,25 @@ def is_value(flag, word):
     return most is not None and re.fullmatch("[0-9]{1,10}", word) is not None and least <= int(word) <= most
 
 
+def flags_like(word):
+    """The flags that a word may be: those of all, and those of its letter."""
+    match = re.match(r"\+M([A-Za-z])", word)
+    letter = match[1] if match and match[1] in "BDEHLRSTu" else "H"
+    return [*FLAGS_OF_ALL, *(f"+M{letter}{it}" for it in FLAGS_OF_ONE)]
+
+
+def joined_flag(word):
+    """The flag with which a word begins that goes on with a value of it, or None."""
+    joined = (it for it in flags_like(word) if word.startswith(it) and is_value(it, word.removeprefix(it)))
+    return max(joined, key=len, default=None)
+
+
 def near_words(flag):
     """What may have been meant by a word that is no flag."""
-    known = [*FLAGS_OF_ALL]
-    match = re.match(r"\+M([A-Za-z])", flag)
-    letter = match[1] if match and match[1] in "BDEHLRSTu" else "H"
-    known += [f"+M{letter}{it}" for it in FLAGS_OF_ONE]
-    joined = sorted((it for it in known if flag.startswith(it) and is_value(it, flag[len(it):])), key=len)
+    joined = joined_flag(flag)
     if joined:
-        return f"a value as a word of its own: {joined[-1]} {flag[len(joined[-1]):]}"
-    near = difflib.get_close_matches(flag, known, 3)
+        return f"a value as a word of its own: {joined} {flag.removeprefix(joined)}"
+    near = difflib.get_close_matches(flag, flags_like(flag), 3)
     if near:
         return f"a flag; near it are {' '.join(near)}"
     return f"a flag: +S, +MMscs, or +M with a letter of {LETTERS} u and one of {' '.join(FLAGS_OF_ONE)}"

@@ -1,5 +1,6 @@
 #!/usr/bin/env python3
-"""The settings that hold for an allocator under accepted flags, and notes on flags that do not do what they say.
+"""The settings that hold for an allocator under accepted flags, what a node does with a list of flags, and notes on
+flags that do not do what they say.
 
 flags.py WORDS prints the notes on the words of ./run, a line each. The allocator types of the input are known only
 where standard input is a file, which is read from where it is, and left there.
@@ -9,7 +10,7 @@ import stat
 import sys
 from dataclasses import dataclass, field
 
-from expected import LETTERS, OWN_FLAG, command_and_flags, is_said, refusal, words_of
+from expected import LETTERS, OWN_FLAG, command_and_flags, is_said, joined_flag, refusal, settings_of, words_of
 
 UNITS_OF_A_KB = 128
 PAGES_OF_A_MB = 256
@@ -17,11 +18,18 @@ OF_REGION = "super"
 EVERY_LETTER = LETTERS.split()
 # In place of a letter it stands for all of them.
 ALL = "u"
-# The allocator whose carriers never migrate, whatever its flags say.
+# The allocator whose carriers never migrate, whatever its flags say. On a node ALL does not stand for it.
 WITHOUT_MIGRATION = "T"
 # Carriers cannot migrate under these strategies. Where they are to migrate, the other one takes their place.
 NOT_MIGRATING = "bf aobf gf af".split()
 IN_THEIR_PLACE = "aoffcbf"
+DEFAULT_LIMIT = "de"
+# A node's own, where no flag says otherwise: its strategy without migration, and its `acul`. Those that are not named
+# have the first. Measured on OTP 25.2.3.
+OWN_STRATEGY, OWN_STRATEGIES = "bf", {"H": "gf", "L": "aobf", "S": "gf", "T": "af"}
+OWN_LIMIT, OWN_LIMITS = 60, {"H": 45, "L": 85}
+# A strategy that temp_alloc alone has on a node, and what any other has in its place.
+OF_TEMP_ALONE, IN_ITS_PLACE = "af", "gf"
 # What holds without a flag; sizes are in kilobytes.
 DEFAULTS = {
     "as": "aoffcbf",
@@ -46,6 +54,16 @@ ALWAYS_TOLD = ("as", "acul", "sbct", "smbcs", "lmbcs")
 # Settings
 
 
+def pairs(words):
+    """Each flag with its value."""
+    return zip(words[::2], words[1::2])
+
+
+def strategy_under(asked, limit):
+    """The strategy that runs where this one is asked for, by the `acul`."""
+    return IN_THEIR_PLACE if limit and asked in NOT_MIGRATING else asked
+
+
 @dataclass
 class Settings:
     """What the words of accepted flags set, for the allocator of a letter."""
@@ -53,20 +71,20 @@ class Settings:
     letter: str
     schedulers: int = 1
     megabytes: int = 64
-    # By the name of a parameter the last flag that sets it, its value, and the place of the pair.
+    # By the name of a parameter the last flag that sets it, and its value.
     given: dict = field(default_factory=dict)
 
     @staticmethod
     def of(words, letter):
         found = Settings(letter)
-        for place, (flag, value) in enumerate(zip(words[::2], words[1::2])):
+        for flag, value in pairs(words):
             match = OWN_FLAG.match(flag)
             if flag == "+S":
                 found.schedulers = int(value)
             elif flag == "+MMscs":
                 found.megabytes = int(value)
             elif match and match[1] in (letter, ALL):
-                found.given[match[2]] = flag, value, place
+                found.given[match[2]] = flag, value
         return found
 
     def asked(self, name):
@@ -87,7 +105,7 @@ class Settings:
     def limit(self):
         """The `acul`."""
         asked = self.asked("acul")
-        return 0 if self.letter == WITHOUT_MIGRATION else int(DEFAULTS["acul"] if asked == "de" else asked)
+        return 0 if self.letter == WITHOUT_MIGRATION else int(DEFAULTS["acul"] if asked == DEFAULT_LIMIT else asked)
 
     @property
     def migrates(self):
@@ -95,14 +113,7 @@ class Settings:
 
     @property
     def strategy(self):
-        asked = self.asked("as")
-        return IN_THEIR_PLACE if self.migrates and asked in NOT_MIGRATING else asked
-
-    @property
-    def is_so_on_a_node(self):
-        """Whether a node too takes another strategy where this one does. On a node a flag of such a strategy sets the
-        `acul` 0, so that a later flag alone has carriers migrate."""
-        return "acul" in self.given and self.given["acul"][2] > self.given["as"][2]
+        return strategy_under(self.asked("as"), self.limit)
 
     @property
     def threshold(self):
@@ -118,10 +129,92 @@ class Settings:
         """What runs, in two words."""
         return f"{self.strategy} {self.limit}"
 
+    def all_held(self):
+        """All that holds: the same for two lists of flags that run alike."""
+        return self.schedulers, self.megabytes, *map(self.held, DEFAULTS)
+
     def told(self):
         """The settings that hold, in words: the main ones, and those that a flag sets."""
         names = [it for it in DEFAULTS if it in ALWAYS_TOLD or it in self.given]
         return ", ".join(f"{it} {self.held(it)}" for it in names)
+
+
+# Lists as a node reads them
+
+
+def parted(words):
+    """The words, each with the place where it stands, where a value that is joined to its flag is a word of its own, as
+    a node takes it: `+MBasbf`, `+S4`. From a word on that is no flag they are as they were."""
+    at = 0
+    while at < len(words):
+        joined = joined_flag(words[at])
+        if settings_of(words[at]):
+            yield from zip(words[at : at + 2], (at, at + 1))
+            at += 2
+        elif joined:
+            yield from ((joined, at), (words[at].removeprefix(joined), at))
+            at += 1
+        else:
+            yield from zip(words[at:], range(at, len(words)))
+            return
+
+
+def is_of(named, letter):
+    """Whether a flag with the letter that is named is one of this allocator on a node."""
+    return named == letter or named == ALL and letter != WITHOUT_MIGRATION
+
+
+def on_a_node(words, letter):
+    """The strategy and the `acul` that a node has for an allocator by accepted words. They are read from left to right,
+    and a strategy under which carriers cannot migrate sets the `acul` 0 at its place."""
+    own_limit = OWN_LIMITS.get(letter, OWN_LIMIT)
+    strategy, limit = OWN_STRATEGIES.get(letter, OWN_STRATEGY), own_limit
+    for flag, value in pairs(words):
+        match = OWN_FLAG.match(flag)
+        if not match or not is_of(match[1], letter):
+            continue
+        if match[2] == "as":
+            strategy, limit = value, 0 if value in NOT_MIGRATING else limit
+        elif match[2] == "acul":
+            limit = own_limit if value == DEFAULT_LIMIT else int(value)
+    if letter == WITHOUT_MIGRATION:
+        return strategy, 0
+    strategy = IN_ITS_PLACE if strategy == OF_TEMP_ALONE else strategy
+    return strategy_under(strategy, limit), limit
+
+
+def added(words, letter):
+    """The flags that come after accepted words, so that the program runs an allocator as a node does by these words."""
+    ours, (strategy, limit) = Settings.of(words, letter), on_a_node(words, letter)
+    if ours.limit != limit:
+        yield from (f"+M{letter}acul", str(limit))
+    if strategy_under(ours.asked("as"), limit) != strategy:
+        yield from (f"+M{letter}as", strategy)
+    theirs = Settings.of([it for pair in pairs(words) if is_of(pair[0][2:3], letter) for it in pair], letter)
+    for name in DEFAULTS:
+        if name not in ("as", "acul") and theirs.asked(name) != ours.asked(name):
+            yield from (f"+M{letter}{name}", theirs.asked(name))
+
+
+def as_on_a_node(words, letters=EVERY_LETTER):
+    """The words for the program under which the allocators of these letters have the strategy and the `acul` that they
+    have on a node with the flags `words`. A value that is joined to its flag becomes a word of its own. What the
+    program would read otherwise is set by flags that come last, which say the same to a node: of `+MBas gf` it makes
+    `+MBas gf +MBacul 0`, and of `+MBacul 0` it makes `+MBacul 0 +MBas bf`. Words that are refused are parted alone."""
+    words = [word for word, _ in parted(words)]
+    if refusal(words):
+        return words
+    known = [it for it in EVERY_LETTER if it in letters]
+    return [*words, *(word for letter in known for word in added(words, letter))]
+
+
+def without_own_strategy(words, letter):
+    """The settings that a node tells of an allocator, without `as` where no flag need have set it. A node tells what
+    ran: where carriers migrate, `aoffcbf` stands in the place of the allocator's own, which `acul` 0 brings back."""
+    settings = Settings.of(words, letter)
+    if refusal(words) or not settings.migrates or settings.asked("as") != IN_THEIR_PLACE:
+        return words
+    return [it for pair in pairs(words) if pair[0] != f"+M{letter}as" for it in pair]
 
 
 # Notes
@@ -139,13 +232,13 @@ def notes_on_strategies(words, letters):
     for letter in letters:
         it = Settings.of(words, letter)
         if it.strategy != it.asked("as"):
-            flag, asked, _ = it.given["as"]
-            found.setdefault((flag, asked, it.limit, it.is_so_on_a_node), []).append(letter)
+            is_so = on_a_node(words, letter)[0] == it.strategy
+            found.setdefault((*it.given["as"], it.limit, is_so), []).append(letter)
     for (flag, asked, limit, is_so), those in found.items():
         is_for_all = len(those) == len(EVERY_LETTER) - len(WITHOUT_MIGRATION)
         to_add = " ".join(f"+M{it}acul 0" for it in ([ALL] if is_for_all else those))
-        on_a_node = f", on a node too: for {asked} add" if is_so else "; a node would set acul 0: add"
-        yield f"{flag} {asked} with acul {limit} runs as {IN_THEIR_PLACE}{on_a_node} {to_add}"
+        there = f", on a node too: for {asked} add" if is_so else "; a node would set acul 0: add"
+        yield f"{flag} {asked} with acul {limit} runs as {IN_THEIR_PLACE}{there} {to_add}"
 
 
 def notes_on_letters(words, letters):

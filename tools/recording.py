@@ -3,6 +3,7 @@ import re
 from collections import Counter
 from dataclasses import dataclass, field
 
+from flags import without_own_strategy
 from program import OF_RULES, RULES
 from refused import Refused, demand
 
@@ -18,6 +19,8 @@ MOST_TOLD = 2048
 EVENTS = ("alloc", "free", "realloc", "to")
 # The turns that an operation takes with an empty queue, if no carrier migrates.
 TURNS = {"give": 2, "take": 2}
+# A block has a header and a whole number of these, and this many at least.
+HEADER, BLOCK_STEP, LEAST_BLOCK = 8, 16, 48
 # Whether a take finds its block depends on the turns of a trace, so there it tries often; and how often all may try.
 TRIES, MOST_TRIES = 1000, 100000000
 
@@ -181,6 +184,8 @@ class Maker:
         if is_trace:
             self.size += sum(len(it) for it in heads(recording.schedulers))
         self.counts, self.said = Counter(), Counter()
+        # The bytes of all blocks that are there, and the most that there were at once.
+        self.bytes, self.most_bytes = 0, 0
 
     def size_of(self, me, line):
         """The bytes that an operation takes; in a trace with its turns, which take fewer where they are put together."""
@@ -210,6 +215,11 @@ class Maker:
             self.size += len(line)
             self.lines.append((0, line))
 
+    def count_block(self, size, sign=1):
+        """Counts the bytes of a block that was placed, or of one that went."""
+        self.bytes += sign * max(LEAST_BLOCK, -(-(size + HEADER) // BLOCK_STEP) * BLOCK_STEP)
+        self.most_bytes = max(self.most_bytes, self.bytes)
+
     def scheduler(self, thread):
         """That of a thread; of one that is no scheduler the one that does its operations, 0 if none does."""
         return self.threads.get(thread, 0) or self.others
@@ -223,6 +233,7 @@ class Maker:
         else:
             self.add((me, f"alloc {self.names + 1} {size}"))
             self.names += 1
+            self.count_block(size)
         self.blocks[place] = Block(self.names, size, me)
 
     def handed(self, me, block):
@@ -241,6 +252,7 @@ class Maker:
             who = me or block.holder
             self.said["freed"] += not me
             self.add(*self.handed(who, block), (who, f"free {block.name}"))
+            self.count_block(block.size, -1)
         self.blocks.pop(place, None)
 
     def begin_move(self, thread, place, size):
@@ -253,10 +265,13 @@ class Maker:
         if old is None or not old.holder or not me or size > MOST_BYTES:
             if old and old.holder:
                 self.add((old.holder, f"free {old.name}"))
+                self.count_block(old.size, -1)
             self.alloc(me, place, size)
             return
         self.add(*self.handed(me, old), (me, f"realloc {old.name} {self.names + 1} {size}"))
         self.names += 1
+        self.count_block(size)
+        self.count_block(old.size, -1)
         self.blocks[place] = Block(self.names, size, me)
 
     def take(self, words):
@@ -329,7 +344,8 @@ def told(recording, maker, last, taken, is_whole):
 
 def own_flags(recording, letter, megabytes):
     """The flags that the node runs under, as the program takes them."""
-    return ["+S", str(recording.schedulers), "+MMscs", str(megabytes), *recording.flags.get(letter, [])]
+    told = without_own_strategy(recording.flags.get(letter, []), letter)
+    return ["+S", str(recording.schedulers), "+MMscs", str(megabytes), *told]
 
 
 def untranslated(recording, letter):

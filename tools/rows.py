@@ -1,4 +1,5 @@
 """The rows of tools/compare: what came of a run, or of a type or a mark of it."""
+import io
 import itertools
 import os
 import stat
@@ -8,7 +9,7 @@ from dataclasses import replace
 
 from columns import DECIMALS
 from files import reason_of
-from flags import Settings
+from flags import Settings, as_on_a_node, letters_of
 from program import NO_RULES, OF_RECORDED, Ended, command_of, is_said, run, told_of, with_schedulers
 from replay import UNITS_EVER, replay
 from texts import (
@@ -18,6 +19,8 @@ from texts import (
 UNITS_OF_A_MB = 2**17
 MARK = b"# mark "
 WHOLE = "end"
+# How lists of flags are read: as a node reads them, or as ./run does.
+AS_A_NODE, AS_RUN = READINGS = "node", "run"
 
 
 def percent(part, whole):
@@ -244,12 +247,18 @@ def rows_of_input(program, flags, row, data, seconds):
         return [{**row, "said": f"the text is not understood: {error}"}]
 
 
+def words_for(flags, data, options):
+    """The words of a list for the program, by how lists are read."""
+    words = with_schedulers(flags.words, data)
+    return as_on_a_node(words, letters_of(io.BytesIO(data))) if options.reading == AS_A_NODE else words
+
+
 def rows_of_run(program, flags, file, options):
     """The lines of the table for one run, and with marks for each of them."""
     data, said = read_input(file)
     if data is None:
         return [{**empty_row(flags, file), "status": None, "said": said}]
-    flags = replace(flags, words=with_schedulers(flags.words, data))
+    flags = replace(flags, words=words_for(flags, data, options))
     if not options.marks:
         return rows_of_input(program, flags, empty_row(flags, file), data, options.seconds)
     rows = []

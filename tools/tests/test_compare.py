@@ -265,19 +265,72 @@ class Compare(unittest.TestCase):
         return [it["ran"] for it in self.rows(self.file("a.trace", text), *words)]
 
     def test_what_ran(self):
-        for letter, acul, wanted in (
-            ("H", "", "aoffcbf 60, aoffcbf 60, ageffcbf 60"),
-            ("H", "+MHacul 0", "gf 0, bf 0, ageffcbf 0"),
-            ("H", "+MBacul 0 +Muacul 25", "aoffcbf 25, aoffcbf 25, ageffcbf 25"),
-            ("T", "+MTacul 60", "gf 0, bf 0, ageffcbf 0"),
+        """By the lists as a node reads them, and as ./run does."""
+        for letter, acul, reading, wanted in (
+            ("H", "", "node", "gf 0, bf 0, ageffcbf 45"),
+            ("H", "+MHacul 0", "node", "gf 0, bf 0, ageffcbf 0"),
+            ("H", "+MBacul 0 +Muacul 25", "node", "gf 0, bf 0, ageffcbf 25"),
+            ("T", "+MTacul 60", "node", "gf 0, bf 0, ageffcbf 0"),
+            ("H", "", "run", "aoffcbf 60, aoffcbf 60, ageffcbf 60"),
+            ("H", "+MHacul 0", "run", "gf 0, bf 0, ageffcbf 0"),
+            ("H", "+MBacul 0 +Muacul 25", "run", "aoffcbf 25, aoffcbf 25, ageffcbf 25"),
         ):
-            words = ["--each", f"+M{letter}as gf bf ageffcbf", "--all", acul]
+            words = ["--each", f"+M{letter}as gf bf ageffcbf", "--all", acul, "--reading", reading]
             found = self.ran(one("alloc 1 100").replace("type H", f"type {letter}"), *words)
             self.assertEqual(", ".join(found), wanted, acul)
 
     def test_what_ran_of_each_type(self):
         trace = several("H B T", ["H alloc 1 100", "B alloc 1 100", "T alloc 1 100"])
-        self.assertEqual(self.ran(trace, "--each", "+Muas af", "--each", "+MHacul 0"), ["af 0", "aoffcbf 60", "af 0"])
+        words = ["--each", "+Muas af", "--each", "+MHacul 0 30"]
+        node, own = ["gf 0", "gf 0", "af 0"], ["af 0", "aoffcbf 60", "af 0"]
+        self.assertEqual(self.ran(trace, *words), [*node, "aoffcbf 30", *node[1:]])
+        self.assertEqual(self.ran(trace, *words, "--reading", "run"), [*own, "aoffcbf 30", *own[1:]])
+
+    def test_words_that_come_after_those_of_a_node(self):
+        """A list of what a node runs under, as tools/load writes it, with more words: what the node would run by all."""
+        self.file("node.flags", "+S\n1\n+MMscs\n64\n+MBsbct\n512\n+MBacul\n60\n")
+        trace = self.file("a.trace", one("alloc 1 100").replace("type H", "type B"))
+        for words, ran, flags in (
+            ("+MBas gf bf", ["gf 0", "bf 0"], "+MBas gf +MBacul 0"),
+            ("+MBacul 0 30", ["bf 0", "aoffcbf 30"], "+MBacul 0 +MBas bf"),
+            ("+MBsbct 64", ["aoffcbf 60"], "+MBsbct 64"),
+        ):
+            rows = self.rows(trace, "--flags", "node.flags", "--each", words)
+            self.assertEqual([it["ran"] for it in rows], ran)
+            self.assertEqual(rows[0]["flags"], f"+S 1 +MMscs 64 +MBsbct 512 +MBacul 60 {flags}")
+
+    def test_joined_values(self):
+        self.file("a.flags", "+MHasbf\n+MMscs2\n")
+        trace = self.file("a.trace", one("alloc 1 100"))
+        [row] = self.rows(trace, "--flags", "a.flags", "--all", "+MHacul0")
+        self.assertRow(row, ran="bf 0", flags="+MHacul 0 +MHas bf +MMscs 2")
+        for text, said in (("+MHasbf\n+MHas\nff\n", f"line 3: ff: bad value\n{NO_STRATEGY}"),
+                           ("+MHasff\n", "line 1: +MHasff: unknown flag\n")):
+            self.file("b.flags", text)
+            self.assertTrue(self.compare(trace, "--flags", "b.flags")[2].startswith(f"compare: b.flags: {said}"))
+        said = self.compare(trace, "--flags", "a.flags", "--reading", "run")[2]
+        self.assertTrue(said.startswith("compare: a.flags: line 1: +MHasbf: unknown flag\n"), said)
+
+    def test_lists_with_the_same_settings(self):
+        """They are named below the text; each has its lines all the same."""
+        words = ["--each", "+MHas gf bf", "--each", "+MHacul 0", "--each", "+MBsbct 1 2", "--columns", "list,ran"]
+        trace = self.file("a.trace", one("alloc 1 100"))
+        same = [f"The same settings, so one list: +MHas {it} +MBsbct 1; +MHas {it} +MBsbct 2." for it in ("gf", "bf")]
+        text = self.compare(trace, *words)[1]
+        self.assertEqual(len(text.partition("\n\n")[0].splitlines()), 5)
+        self.assertEqual(text.partition("\n\n")[2].splitlines()[1:3], same)
+        self.assertEqual(len(self.rows(trace, *words)), 4)
+        # Of the types of this input one is set otherwise.
+        both = self.file("b.trace", several("H B", ["H alloc 1 100"]))
+        for traces in ([both], [trace, both]):
+            self.assertNotIn("The same settings", self.compare(*traces, *words)[1])
+        # Without these words the first of two lists says the same as the second.
+        self.file("a.flags", "+MHasgf")
+        self.file("b.flags", "+MHacul 0 +MHsbct 512")
+        said = "The same settings, so one list: a.flags; b.flags.\n"
+        self.assertIn(said, self.compare(trace, both, "--flags", "a.flags", "b.flags")[1])
+        words = ["--flags", "b.flags", self.file("c.flags", "+MHas gf"), "--reading", "run"]
+        self.assertNotIn("The same settings", self.compare(trace, *words)[1])
 
     def test_lists_that_ran_alike_have_the_same_figures(self):
         """Where `ran` is the same of two lists that differ in as and acul alone, so is all else."""
@@ -289,42 +342,46 @@ class Compare(unittest.TestCase):
         for it in rows:
             it = {name: value for name, value in it.items() if name not in ("list", "flags", "seconds")}
             self.assertEqual(figures.setdefault(it["ran"], it), it)
-        # Six strategies with each limit, and four without migration alone.
-        self.assertEqual(len(figures), 6 * 2 + 4)
+        # Six strategies with 60, 45 and 0, and three without migration alone: gf in the place of af, too.
+        self.assertEqual(len(figures), 6 * 3 + 3)
         self.assertNotEqual(figures["gf 0"], {**figures["aoffcbf 60"], "ran": "gf 0"})
 
     def test_of_what_did_not_run_it_is_not_known(self):
         [good, bad] = self.rows(self.file("a.trace", one("idle")), "--each", "+MHas aoff ff", status=1)
-        self.assertEqual((good["ran"], bad["ran"]), ("aoff 60", None))
+        self.assertEqual((good["ran"], bad["ran"]), ("aoff 45", None))
 
     def test_notes_on_flags_stand_below_the_text(self):
-        note = "{0} with acul 60 runs as aoffcbf; a node would set acul 0: add +MHacul 0.".format
+        note = "{0} with acul 30 runs as aoffcbf, on a node too: for {1} add +MHacul 0.".format
         letter = "+MB flags change nothing here: the input is of type H."
+        same = "The same settings, so one list: +MHas gf +MHacul 30 +MBsbct 1; +MHas bf +MHacul 30 +MBsbct 1."
         trace = self.file("a.trace", one("idle"))
-        words = ["--each", "+MHas gf bf aoff", "--each", "+MBsbct 1 2", "--columns", "ran"]
+        words = ["--each", "+MHas gf bf aoff", "--each", "+MHacul 30", "--each", "+MBsbct 1", "--columns", "ran"]
         status, text, said = self.compare(trace, *words)
         self.assertEqual((status, said), (0, ""))
-        ran = "".join(f"{it}\n" for it in ["ran", *["aoffcbf 60"] * 4, *["aoff 60"] * 2])
+        ran = "".join(f"{it}\n" for it in ["ran", *["aoffcbf 30"] * 2, "aoff 30"])
         self.assertEqual(text.partition("\n\n")[0] + "\n", ran)
-        self.assertEqual(text.partition("\n\n")[2].splitlines(), [note("+MHas gf"), letter, note("+MHas bf")])
+        notes = [same, note("+MHas gf", "gf"), letter, note("+MHas bf", "bf")]
+        self.assertEqual(text.partition("\n\n")[2].splitlines(), notes)
+        as_run = self.compare(trace, *words[:2], "--reading", "run")[1]
+        self.assertIn("\n+MHas gf with acul 60 runs as aoffcbf; a node would set acul 0: add +MHacul 0.\n", as_run)
         # Results are noted in the same way, and other forms have no notes.
-        self.file("a.json", self.compare(trace, *words[:4], "--as", "json")[1])
+        self.file("a.json", self.compare(trace, *words[:6], "--as", "json")[1])
         self.assertEqual(self.compare("--from", "a.json", "--columns", "ran"), (0, text, ""))
         self.assertEqual(self.compare(trace, *words, "--as", "csv")[1], ran)
 
     def test_notes_name_the_trace_where_there_are_several(self):
         traces = [self.file("a.trace", one("idle")), self.file("b.trace", one("idle").replace("type H", "type B"))]
-        text = self.compare(*traces, "--each", "+MBas gf", "--columns", "ran")[1]
+        text = self.compare(*traces, "--each", "+MBas gf", "--each", "+MBacul 9", "--columns", "ran")[1]
         self.assertEqual(text.partition("\n\n")[2].splitlines(), [
             "a.trace: +MB flags change nothing here: the input is of type H.",
-            "b.trace: +MBas gf with acul 60 runs as aoffcbf; a node would set acul 0: add +MBacul 0."])
+            "b.trace: +MBas gf with acul 9 runs as aoffcbf, on a node too: for gf add +MBacul 0."])
 
     def test_a_note_of_run_is_nothing_that_the_program_said(self):
         """Where ./run itself is the program, it has notes on standard error, at status 0."""
         self.file("noting", f'#!/bin/sh\n[ $# -eq 0 ] || echo "note: this" >&2\nexec {shlex.quote(program())} "$@"\n')
         os.chmod(f"{self.room}/noting", 0o755)
         row = self.row(one("idle"), "--program", "./noting", "--each", "+MHas gf")
-        self.assertRow(row, said=None, ran="aoffcbf 60")
+        self.assertRow(row, said=None, ran="gf 0")
 
     # Memory, blocks and gaps
 
@@ -365,7 +422,7 @@ class Compare(unittest.TestCase):
     def test_flags_of_all_lists_come_first(self):
         trace = self.file("a.trace", one("alloc 1 100"))
         [row] = self.rows(trace, "--each", "+MHsmbcs 8", "--all", "+MHsmbcs 16 +MHacul 0")
-        self.assertRow(row, list="+MHsmbcs 8", flags="+MHsmbcs 16 +MHacul 0 +MHsmbcs 8", units_end=2 * 512)
+        self.assertRow(row, list="+MHsmbcs 8", flags="+MHsmbcs 16 +MHacul 0 +MHsmbcs 8 +MHas gf", units_end=2 * 512)
         said = self.compare(trace, "--", "+MHas", "ff")[2]
         self.assertEqual(said, f"compare: the flags of all lists: ff: bad value\n{NO_STRATEGY}")
 
@@ -412,9 +469,9 @@ class Compare(unittest.TestCase):
         """With two schedulers each has 128 pages, so that a block of 147 has no place, up to the first mark, too."""
         text = "type H\n1 alloc 1 600000\n# mark one\n2 alloc 2 100\nend\n"
         rows = self.recorded(text, "--marks", "--each", "+MMscs 1")
-        self.assertEqual([(it["flags"], it["failed"]) for it in rows], [("+MMscs 1 +S 2", 1)] * 2)
+        self.assertEqual([(it["flags"], it["failed"]) for it in rows], [("+MMscs 1 +S 2 +MHacul 45", 1)] * 2)
         [row] = self.recorded(text, "--each", "+MMscs 1", "--each", "+S 64")
-        self.assertEqual((row["flags"], row["failed"]), ("+MMscs 1 +S 64", 1))
+        self.assertEqual((row["flags"], row["failed"]), ("+MMscs 1 +S 64 +MHacul 45", 1))
         name = self.file("bad.input", "type H\n1 idle\n65 idle\nend\n")
         status, _, said = self.compare(name)
         wanted = f"compare: {name}: line 3: bad scheduler\ncompare: expected: +S is 1, so schedulers are 1 to 1\n"
@@ -475,7 +532,7 @@ class Compare(unittest.TestCase):
         rows = self.rows(self.file("both.trace", several("H B", *mixed)), "--each", "+S 2", *words)
         for row, (letter, parts) in zip(rows, sections.items()):
             alone = self.row(two(*parts).replace("type H", f"type {letter}"), "--each", "+S 2", *words)
-            self.assertRow(row, **{name: it for name, it in alone.items() if name not in ("trace", "seconds")})
+            self.assertRow(row, **{name: it for name, it in alone.items() if name not in ("trace", "flags", "seconds")})
         self.assertEqual([(it["type"], it["returned"]) for it in rows], [("H", 0), ("B", 1)])
 
     def test_types_by_turns(self):
@@ -581,8 +638,7 @@ class Compare(unittest.TestCase):
         words = ["--each", "+MHas bf ff", "--columns", "list,status"]
         status, text, said = self.compare(self.file("a.trace", one()), *words)
         self.assertEqual((status, said), (1, f"compare: --each '+MHas ff': ff: bad value\n{NO_STRATEGY}"))
-        note = "+MHas bf with acul 60 runs as aoffcbf; a node would set acul 0: add +MHacul 0.\n"
-        self.assertEqual(text, f"list      status\n+MHas bf       0\n+MHas ff       1\n\n{note}")
+        self.assertEqual(text, "list      status\n+MHas bf       0\n+MHas ff       1\n")
 
     def test_a_main_carrier_that_does_not_fit(self):
         said = self.compare(self.file("a.trace", one()), "--each", "+MMscs 1", "--each", "+MHmmbcs 2000")[2]
@@ -694,7 +750,7 @@ class Compare(unittest.TestCase):
         rows = self.rows(*words, status=1)
         self.assertEqual([it["carriers_end"] for it in rows], sorted(it["carriers_end"] for it in rows[:3]) + [None])
         rows = self.rows(*words, "--reverse", status=1)
-        self.assertEqual([it["flags"].split()[-1] for it in rows], ["256", "512", "2048", "0"])
+        self.assertEqual([it["list"].split()[-1] for it in rows], ["256", "512", "2048", "0"])
 
     def test_a_bound_is_sorted_by_its_number(self):
         table = [{"list": it[0], "carriers_most": it[1]} for it in (("a", 10), ("b", "<=9"), ("c", None), ("d", 8))]

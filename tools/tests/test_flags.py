@@ -17,7 +17,10 @@ TOP = os.path.dirname(os.path.dirname(os.path.dirname(os.path.realpath(__file__)
 sys.dont_write_bytecode = True
 sys.path.insert(0, f"{TOP}/tools")
 from counted import run_tests
-from flags import DEFAULTS, EVERY_LETTER, Settings, letters_of, notes_on
+from flags import (
+    DEFAULTS, EVERY_LETTER, Settings, as_on_a_node, letters_of, notes_on, notes_on_strategies, on_a_node, parted,
+    without_own_strategy,
+)
 
 PROGRAM = os.path.abspath(sys.argv.pop(1)) if len(sys.argv) > 1 else None
 ERL = shutil.which("erl")
@@ -26,11 +29,18 @@ BOUND = "bf aobf gf af".split()
 # In a small region many carriers come and go.
 SMALL = "+MMscs 2 +Musmbcs 8 +Mulmbcs 8"
 SMALL_SIZES = 40, 100, 200, 300, 700, 2000, 3000, 4000
-# Prints the strategy and the limit of binary_alloc's first instance.
+# Prints the strategy and the limit of each allocator, of its last instance.
 ASK_NODE = """
-[_, {instance, 1, Parts} | _] = erlang:system_info({allocator, binary_alloc}),
-{options, All} = lists:keyfind(options, 1, Parts),
-io:format("~p ~p", [element(2, lists:keyfind(It, 1, All)) || It <- [as, acul]]), halt()."""
+Told = fun(Allocator) ->
+    {instance, _, Parts} = lists:last(erlang:system_info({allocator, Allocator})),
+    {options, All} = lists:keyfind(options, 1, Parts),
+    io:format("~p ~p~n", [element(2, lists:keyfind(It, 1, All)) || It <- [as, acul]])
+end,
+lists:foreach(Told, [binary_alloc, std_alloc, ets_alloc, eheap_alloc, ll_alloc, driver_alloc, sl_alloc, temp_alloc]),
+io:format("~p~n", [erlang:system_info(schedulers)]), halt()."""
+# Without flags a node's allocators have these.
+NODE = {it: "aoffcbf 60" for it in EVERY_LETTER} | {"H": "aoffcbf 45", "L": "aoffcbf 85", "T": "af 0"}
+APART = {it: "bf 0" for it in EVERY_LETTER} | {"H": "gf 0", "L": "aobf 0", "S": "gf 0", "T": "af 0"}
 GF_IS_REPLACED = "+MHas gf with acul 60 runs as aoffcbf; a node would set acul 0: add +MHacul 0"
 
 
@@ -170,6 +180,14 @@ class Notes(unittest.TestCase):
         ):
             self.assertEqual(notes(words, *letters), wanted, words)
 
+    def test_on_nodes(self):
+        """A note says that a node does the same where that is so."""
+        for words, node in AsOnANode.LISTS.items():
+            words = [it for it, _ in parted(words.split())]
+            for said in notes_on_strategies(words, ["B"]):
+                self.assertEqual(", on a node too: " in said, node["B"] == Settings.of(words, "B").ran(), words)
+                self.assertEqual("; a node would set acul 0: " in said, node["B"].endswith(" 0"), words)
+
     def test_where_nothing_has_to_be_said(self):
         for words, letters in (
             ("", "H"), ("+MHas gf +MHacul 0", "H"), ("+MTas gf", "T"), ("+Muas gf", "T"), ("+MHas aoff", "H"),
@@ -206,24 +224,108 @@ class Notes(unittest.TestCase):
                 self.assertEqual(settings.strategy, settings.asked("as"))
 
 
+def ran(words, letter):
+    """What the program runs by the words of a list as a node reads it."""
+    return Settings.of(as_on_a_node(words.split(), [letter]), letter).ran()
+
+
+def of_all(strategy, **others):
+    """What each allocator has under `+Muas` and others."""
+    return {it: f"{strategy} 0" for it in EVERY_LETTER} | {"T": "af 0"} | others
+
+
+class AsOnANode(unittest.TestCase):
+    """Lists as a node reads them: what each allocator then has, as measured by the last test of a node."""
+
+    LISTS = {
+        "": NODE,
+        "+Muacul 0": APART,
+        "+Muacul de": NODE,
+        "+MBas gf": NODE | {"B": "gf 0"},
+        "+MBacul60 +MBasaoffcbf +MBacul0 +MHacul 0 +MSas ageffcaoff": NODE | {
+            "B": "aoffcbf 0", "H": "gf 0", "S": "ageffcaoff 60"},
+        "+MBas gf +MBacul 30 +MHas bf +MHacul de +MLacul 20 +MLas aobf": NODE | {
+            "B": "aoffcbf 30", "H": "aoffcbf 45", "L": "aobf 0"},
+        "+Muas af +MBacul 1 +MTas gf +MEas aoff": of_all("gf", B="aoffcbf 1", T="gf 0", E="aoff 0"),
+        "+Muacul 0 +Muas aoff +MBas bf +MHacul de": of_all("aoff", B="bf 0", H="aoff 45"),
+        "+MBas bf +Muacul 20 +MBacul 0 +MRasageffcbf": {it: "aoffcbf 20" for it in EVERY_LETTER} | {
+            "B": "bf 0", "R": "ageffcbf 20", "T": "af 0"},
+        "+S3 +MBas bf +MBacul 30 +MBas aobf +MTas aoffcaobf": NODE | {"B": "aobf 0", "T": "aoffcaobf 0"},
+    }
+
+    def test_what_runs(self):
+        for words, wanted in self.LISTS.items():
+            self.assertEqual({it: ran(words, it) for it in EVERY_LETTER}, wanted, words)
+
+    def test_which_words_come_last(self):
+        for words, letters, more in (
+            ("+MBas gf", "B", "+MBacul 0"), ("+MBacul 0", "B", "+MBas bf"), ("+MBas gf +MBacul 0", "B", ""),
+            ("+MBas gf +MBacul 30", "B", ""), ("", "BE", ""), ("", "HLT", "+MHacul 45 +MLacul 85 +MTas af"),
+            ("+MHacul de", "H", "+MHacul 45"), ("+MBas gf", "H", "+MHacul 45"), ("+MBas af +MBacul 0", "B", "+MBas gf"),
+            ("+MTas gf +Muas bf +Musbct 9 +MTlmbcs 7 +Mulmbcs 8", "T", "+MTas gf +MTsbct 512 +MTlmbcs 7"),
+            ("+MBacul 0", "", ""), ("+MBacul 0", "Q", ""),
+        ):
+            self.assertEqual(as_on_a_node(words.split(), letters), [*words.split(), *more.split()], words)
+
+    def test_of_letters_that_are_not_given_each_is_read(self):
+        found = as_on_a_node(["+Muacul", "0"])
+        self.assertEqual({it: Settings.of(found, it).ran() for it in EVERY_LETTER}, APART)
+
+    def test_the_words_that_are_made_say_the_same_to_a_node(self):
+        chance = random.Random(2)
+        values = {"as": FREE + BOUND, "acul": ["0", "30", "60", "de"], "sbct": ["1", "512"]}
+        for _ in range(200):
+            names = chance.choices([*values], k=4)
+            words = [it for name in names for it in (f"+M{chance.choice('HBTuu')}{name}", chance.choice(values[name]))]
+            made = as_on_a_node(words)
+            self.assertEqual(as_on_a_node(made), made)
+            for it in EVERY_LETTER:
+                self.assertEqual(on_a_node(made, it), on_a_node(words, it))
+
+    def test_joined_values(self):
+        for words, wanted in (
+            ("+MBasbf +MBacul0 +S4 +MMscs64", "+MBas bf +MBacul 0 +S 4 +MMscs 64"),
+            ("+MBasbcst12 +MBasaoffcaobf", "+MBasbcst 12 +MBas aoffcaobf"),
+            ("+MBas +MBacul0 +MBt true +MBttrue", "+MBas +MBacul0 +MBt true +MBt true"),
+            ("+MBas bf x +MBacul0", "+MBas bf x +MBacul0"), ("+MBasff +MBacul0", "+MBasff +MBacul0"),
+            ("+MBacul101", "+MBacul101"), ("+MBas", "+MBas"), ("+S4:4", "+S4:4"),
+        ):
+            self.assertEqual([it for it, _ in parted(words.split())], wanted.split(), words)
+        self.assertEqual([*parted(["+MBasbf", "+S", "4"])], [("+MBas", 0), ("bf", 0), ("+S", 1), ("4", 2)])
+
+    def test_refused_words_are_parted_alone(self):
+        for words in ("+MBacul 0 +MBas ff", "+MBacul 0 x", "+MBacul 101", "+MBacul 0 +MBe false", "+MBacul"):
+            self.assertEqual(as_on_a_node(words.split()), words.split())
+        self.assertEqual(as_on_a_node(["+MBacul0", "x"]), ["+MBacul", "0", "x"])
+
+    def test_what_a_node_tells_has_no_strategy_that_need_not_be_given(self):
+        """So that a list with more words is read as if the node had all of them."""
+        told = "+MBsbct 512 +MBacul 60 +MBas aoffcbf".split()
+        given = without_own_strategy(told, "B")
+        self.assertEqual(given, "+MBsbct 512 +MBacul 60".split())
+        self.assertEqual(Settings.of(given, "B").all_held(), Settings.of(told, "B").all_held())
+        for more, wanted in (
+            ("", "aoffcbf 60"), ("+MBacul 0", "bf 0"), ("+MBas gf", "gf 0"), ("+MBas aoff", "aoff 60"),
+        ):
+            self.assertEqual(ran(" ".join([*given, more]), "B"), wanted)
+        for words in ("+MBas bf +MBacul 0", "+MBas aoffcbf +MBacul 0", "+MBas aoff +MBacul 60", "+MBas gf +MBacul 60",
+                      "+MBas aoffcbf +MBacul x", ""):
+            self.assertEqual(without_own_strategy(words.split(), "B"), words.split())
+        self.assertEqual(without_own_strategy(["+MTas", "af", "+MTacul", "0"], "T"), ["+MTas", "af", "+MTacul", "0"])
+
+
 @unittest.skipUnless(ERL, "there is no Erlang node")
 class Node(unittest.TestCase):
-    """A node's binary_alloc has what the notes say of nodes."""
+    def told(self, words):
+        """The strategy and the limit of each letter on a node of its own, and its schedulers."""
+        command = [ERL, "+S", "2:2", *words.split(), "-noshell", "-eval", ASK_NODE]
+        how = {"env": {**os.environ, "ERL_CRASH_DUMP": os.devnull}, "timeout": 60, "check": True}
+        lines = subprocess.run(command, capture_output=True, text=True, **how).stdout.splitlines()
+        return dict(zip(EVERY_LETTER, lines)), int(lines[-1])
 
-    def test_the_order_decides(self):
-        for words, node in (
-            ("+MBas gf", "gf 0"),
-            ("+MBacul 30 +MBas gf", "gf 0"),
-            ("+MBas gf +MBacul 30", "aoffcbf 30"),
-            ("+Muas bf +Muacul 30", "aoffcbf 30"),
-            ("+MBas gf +MBacul 30 +MBas gf", "gf 0"),
-        ):
-            command = [ERL, "+S", "2:2", *words.split(), "-noshell", "-eval", ASK_NODE]
-            ran = subprocess.run(command, capture_output=True, text=True, timeout=60, check=True)
-            self.assertEqual(ran.stdout, node, words)
-            [said] = notes(words, "B")
-            self.assertEqual(", on a node too: " in said, node == Settings.of(words.split(), "B").ran(), words)
-            self.assertEqual("; a node would set acul 0: " in said, node.endswith(" 0"), words)
+    def test_a_node_has_what_is_said(self):
+        for words, wanted in AsOnANode.LISTS.items():
+            self.assertEqual(self.told(words), (wanted, 3 if "+S3" in words else 2), words)
 
 
 class Input(unittest.TestCase):

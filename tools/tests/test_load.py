@@ -296,6 +296,10 @@ class Operations(Case):
             self.assertEqual(file.read().split(), "+S 2 +MMscs 1 +MBas bf +MBacul 0".split())
         self.assertIn("# The node's own flags, the first list to compare: +S 2 +MMscs 1 +MBas bf +MBacul 0\n", done.stdout)
         self.assertIn("# Not translated: +MBatags true\n", done.stdout)
+        # A strategy that the node's own is without a flag of it stands in no list.
+        self.load(*words, "--node-flags", f"{self.room}/a.flags", self.file(text.replace("bf +MBacul 0", "aoffcbf +MBacul 60")))
+        with open(f"{self.room}/a.flags", encoding="ascii") as file:
+            self.assertEqual(file.read().split(), "+S 2 +MMscs 1 +MBacul 60".split())
         self.refused(f"{self.room}/node.load: line 6: pairs of a flag and its value are due",
                      self.file(SMALL + "flags +MBas\n"))
 

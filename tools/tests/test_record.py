@@ -193,6 +193,50 @@ class Events(Case):
             self.assertEqual(source.read().split(), "+S 2 +MMscs 1 +MBas bf +MBacul 0".split()[:2] + source_words(text))
         self.assertIn("# Not translated: +MBatags true\n", text)
 
+    def flags_of(self, head, *events, words=()):
+        """The list that is written of a recording, by its flags."""
+        path = self.write("a.record", head + "".join(f"{it}\n" for it in events))
+        self.load("--recorded", path, "--type", "B", *words, "--node-flags", f"{self.room}/a.flags")
+        words = text_of(f"{self.room}/a.flags").split()
+        return dict(zip(words[::2], words[1::2]))
+
+    # At most sixteen blocks of 1,000,016 bytes at once, of both schedulers, between two marks.
+    PEAK = [f"{kind} B {1 + at % 2} {at:x}{' 1000000' if kind == 'alloc' else ''}"
+            for kind in ("alloc", "free") for at in range(16)]
+
+    def test_a_super_carrier_with_room_for_what_there_is_between_marks(self):
+        """Twice the most bytes at once, for each scheduler, as a power of two; or the node's, up to the largest."""
+        others = ["alloc H 1 aa 9000000", "alloc B 3 ab 9000000"]
+        moved = [*self.PEAK[:4], "realloc B 1 0 12000000", "to B 1 ac"]
+        for events, words, node, wanted in (
+            (self.PEAK, (), 0, 64), (self.PEAK * 2, (), 0, 64), (self.PEAK, ("--until", "middle"), 0, 16),
+            (others + self.PEAK, (), 0, 64), (others + self.PEAK, ("--others", "1"), 0, 128), (moved, (), 0, 64),
+            (self.PEAK, (), 5, 5), (self.PEAK, (), 600, 512), ([], (), 0, 4), (["alloc B 1 0 900000000"], (), 0, 512),
+            # Each has 48 bytes.
+            ([f"alloc B 1 {it:x} 8" for it in range(50000)], (), 0, 16),
+        ):
+            head = HEAD.replace("super 0", f"super {node}").replace("mark 100 end", "mark 60000 end")
+            self.assertEqual(self.flags_of(head, *events, words=words)["+MMscs"], str(wanted), (events[:2], words, node))
+
+    @unittest.skipUnless(PROGRAM, "there is no program")
+    def test_with_that_super_carrier_each_block_has_a_place(self):
+        path = self.write("a.record", HEAD + "".join(f"{it}\n" for it in self.PEAK))
+        self.load("--recorded", path, "--type", "B", "--node-flags", f"{self.room}/a.flags", "--output", f"{self.room}/a.input")
+        with open(f"{self.room}/a.input", "rb") as source:
+            ran = self.run_tool(PROGRAM, "recorded", *text_of(f"{self.room}/a.flags").split(), stdin=source)
+        self.assertEqual((ran.returncode, ran.stdout.count(" fail ")), (0, 0))
+        self.assertEqual(ran.stdout.count("\nalloc "), 16)
+
+    def test_the_list_has_no_strategy_that_no_flag_need_have_set(self):
+        """A node tells what runs, and with a strategy of its own that is aoffcbf where carriers migrate."""
+        for told, wanted in (
+            ("+MBacul 60 +MBas aoffcbf", {"+MBacul": "60"}),
+            ("+MBacul 0 +MBas aoffcbf", {"+MBacul": "0", "+MBas": "aoffcbf"}),
+            ("+MBacul 60 +MBas aoff", {"+MBacul": "60", "+MBas": "aoff"}),
+        ):
+            found = self.flags_of(HEAD.replace("+MBas bf +MBacul 0", told))
+            self.assertEqual({it: value for it, value in found.items() if it.startswith("+MB")}, wanted)
+
     def test_as_a_trace(self):
         lines = self.made("alloc B 1 a0 100", "alloc B 2 c0 50", "free B 2 a0", more=("--as", "trace"))
         self.assertEqual(lines, ["type B", "scheduler 1", "alloc 1 100", "give 1 2", "scheduler 2", "alloc 2 50",
