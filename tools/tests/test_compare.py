@@ -638,45 +638,151 @@ class Compare(unittest.TestCase):
             ran.stdout.close()
             self.assertEqual((ran.stderr.read(), ran.wait()), (b"", 1))
 
-    def test_an_interrupt_leaves_what_had_ended(self):
-        self.file("a.trace", one())
-        lines = ["#!/bin/sh", '[ "${2:-}" = bf ] && touch begun && sleep 600', f'exec {shlex.quote(program())} "$@"', ""]
-        slow = self.file("slow", "\n".join(lines))
-        os.chmod(f"{self.room}/slow", 0o755)
-        words = ["a.trace", "--program", slow, "--jobs", "1", "--each", "+MHas gf bf af", "--columns", "list,status"]
-        # A shell starts what runs in the background with this signal ignored.
-        how = {"preexec_fn": lambda: signal.signal(signal.SIGINT, signal.SIG_DFL), "start_new_session": True}
-        streams = {"stdout": subprocess.PIPE, "stderr": subprocess.PIPE, "text": True}
-        ran = subprocess.Popen(self.words(*words), cwd=self.room, **streams, **how)
-        while not os.path.exists(f"{self.room}/begun"):
-            self.assertIsNone(ran.poll())
-            time.sleep(0.05)
-        os.killpg(ran.pid, signal.SIGINT)
-        text, said = ran.communicate()
-        self.assertEqual(ran.returncode, 130)
-        self.assertTrue(said.startswith("compare: interrupted\n"), said)
-        self.assertIn("+MHas gf       0\n", text)
-        self.assertNotIn("Traceback", said)
+    # Signals
 
-    def test_a_signal_to_the_tool_alone_ends_its_runs_at_once(self):
-        """Also what a run has started: it does not come to its end."""
+    ENDS = "compare: interrupted: {} of {} runs had ended\n".format
+
+    def slow(self):
+        """A program that never ends under `bf`, by what it has started, and makes the file `begun` first."""
         lines = ["#!/bin/sh", '[ "${2:-}" = bf ] && touch begun && { sh -c "sleep 600; touch ended"; exit 0; }',
                  f'exec {shlex.quote(program())} "$@"', ""]
         self.file("slow", "\n".join(lines))
         os.chmod(f"{self.room}/slow", 0o755)
-        words = [self.file("a.trace", one()), "--program", "./slow", "--each", "+MHas gf bf", "--columns", "list,status"]
-        for number in signal.SIGINT, signal.SIGTERM:
-            how = {"preexec_fn": lambda: signal.signal(signal.SIGINT, signal.SIG_DFL), "start_new_session": True}
-            streams = {"stdout": subprocess.PIPE, "stderr": subprocess.PIPE, "text": True}
-            ran = subprocess.Popen(self.words(*words), cwd=self.room, **streams, **how)
-            while not os.path.exists(f"{self.room}/begun"):
-                self.assertIsNone(ran.poll())
-                time.sleep(0.05)
-            ran.send_signal(number)
-            text, said = ran.communicate()
-            self.assertFalse(os.path.exists(f"{self.room}/ended"))
-            self.assertEqual((ran.returncode, said), (130, "compare: interrupted\n"), text)
+        return [self.file("a.trace", one()), "--program", "./slow"]
+
+    def begin(self, *words, **streams):
+        """The tool in a group of its own, once `bf` has begun."""
+        if os.path.exists(f"{self.room}/begun"):
             os.unlink(f"{self.room}/begun")
+        # A shell starts what runs in the background with one of these ignored.
+        how = {"preexec_fn": lambda: signal.signal(signal.SIGINT, signal.SIG_DFL), "start_new_session": True}
+        streams = {"stdout": subprocess.PIPE, "stderr": subprocess.PIPE, "text": True, **streams}
+        ran = subprocess.Popen(self.words(*self.slow(), *words), cwd=self.room, **streams, **how)
+        self.addCleanup(ran.wait)
+        self.addCleanup(ran.kill)
+        while not os.path.exists(f"{self.room}/begun"):
+            self.assertIsNone(ran.poll())
+            time.sleep(0.05)
+        return ran
+
+    def ended(self, ran):
+        """What it wrote and said, within some seconds, and nothing that it had started goes on."""
+        text, said = ran.communicate(timeout=20)
+        self.assertEqual((ran.returncode, self.runs_here()), (130, []), said)
+        return text, said
+
+    def runs_here(self):
+        """The processes that work in this test's folder."""
+        found = []
+        for it in filter(str.isdigit, os.listdir("/proc")):
+            try:
+                found += [it] if os.readlink(f"/proc/{it}/cwd") == os.path.realpath(self.room) else []
+            except OSError:
+                continue
+        return found
+
+    def test_signals_leave_what_had_ended(self):
+        """Each of them, to the tool alone or to its group, once or more often."""
+        columns = ["--columns", "list,status"]
+        for number in signal.SIGINT, signal.SIGTERM, signal.SIGHUP:
+            for send, times in ((os.kill, 1), (os.killpg, 1), (os.killpg, 2), (os.killpg, 3)):
+                with self.subTest(f"{number!r} {send.__name__} {times}"):
+                    ran = self.begin("--jobs", "1", "--each", "+MHas gf bf af", *columns)
+                    for _ in range(times):
+                        send(ran.pid, number)
+                        time.sleep(0.02)
+                    text, said = self.ended(ran)
+                    self.assertEqual(said, self.ENDS(1, 3))
+                    note = "+MHas gf with acul 60 runs as aoffcbf; a node would set acul 0: add +MHacul 0."
+                    self.assertEqual(text, f"list      status\n+MHas gf       0\n\n{note}\nInterrupted: 1 of 3 runs had ended.\n")
+
+    def test_timeout(self):
+        """It sends its signal to the tool, and to the group as well. The status is its own."""
+        words = ["timeout", "-k", "30", "4", *self.words(*self.slow(), "--each", "+MHas aoff bf", "--columns", "list")]
+        began = time.monotonic()
+        ran = subprocess.run(words, cwd=self.room, capture_output=True, text=True, timeout=60, check=False)
+        self.assertEqual((ran.returncode, ran.stderr), (124, self.ENDS(1, 2)))
+        self.assertTrue(ran.stdout.startswith("list\n+MHas aoff\n"), ran.stdout)
+        self.assertLess(time.monotonic() - began, 20)
+        self.assertEqual(self.runs_here(), [])
+
+    def test_a_signal_while_several_runs_are_under_way(self):
+        ran = self.begin("--jobs", "3", "--each", "+MHas bf", "--each", "+MHsbct 1 2 3", "--as", "json", "--columns", "list")
+        os.killpg(ran.pid, signal.SIGTERM)
+        text, said = self.ended(ran)
+        self.assertEqual((json.loads(text), said), ([], self.ENDS(0, 3)))
+
+    def test_runs_end_if_the_tool_is_killed(self):
+        ran = self.begin("--each", "+MHas bf")
+        ran.kill()
+        ran.wait()
+        for _ in range(100):
+            if not self.runs_here():
+                break
+            time.sleep(0.1)
+        self.assertEqual(self.runs_here(), [])
+
+    def test_csv_has_a_line_as_soon_as_a_run_has_ended(self):
+        """In the order of the lists: what ends later and comes first is waited for. A signal has the rest written."""
+        read, write = os.pipe()
+        self.addCleanup(os.close, read)
+        words = ["--each", "+MHas aoff bf gf", "--columns", "list,status,percent_end", "--as", "csv"]
+        ran = self.begin("--jobs", "2", *words, stdout=write)
+        os.close(write)
+        self.assertEqual(os.read(read, 1000), b"list,status,percent_end\n+MHas aoff,0,\n")
+        # Both are there by then.
+        time.sleep(1)
+        ran.send_signal(signal.SIGTERM)
+        self.assertEqual(self.ended(ran)[1], self.ENDS(2, 3))
+        self.assertEqual(os.read(read, 1000), b"+MHas gf,0,\n")
+
+    def test_a_terminal_shows_each_run_as_it_ends(self):
+        master, terminal = os.openpty()
+        self.addCleanup(os.close, master)
+        ran = subprocess.Popen(self.words(self.file("a.trace", one("alloc 1 100")), "--jobs", "1", "--each", "+MHsbct 1 2",
+                               *KEPT_APART), cwd=self.room, stdout=subprocess.PIPE, stderr=terminal, text=True)
+        text = ran.communicate(timeout=60)[0]
+        os.close(terminal)
+        shown = os.read(master, 10000).decode().replace("\r\033[K", "\n").replace("\r\n", "\n").split("\n")
+        lines = [it for number in (1, 2) for it in (
+            f"+MHsbct {number} +MHacul 0: most 0.2 MB, end 0.2 MB, 1 carriers", f"compare: {number} of 2 runs")]
+        self.assertEqual([it for it in shown if it], ["compare: 0 of 2 runs", *lines])
+        self.assertNotIn("runs", text)
+
+    def saved(self):
+        [name] = [it for it in os.listdir(self.room) if it.startswith("compare-")]
+        return name
+
+    def test_a_terminal_that_is_gone_loses_no_rows(self):
+        master, terminal = os.openpty()
+        ran = self.begin("--each", "+MHas aoff bf", stdout=terminal, stderr=terminal)
+        os.close(terminal)
+        time.sleep(1)
+        os.close(master)
+        os.killpg(ran.pid, signal.SIGHUP)
+        self.assertEqual(ran.wait(20), 130)
+        [row] = self.rows("--from", self.saved())
+        self.assertRow(row, list="+MHas aoff", status=0)
+
+    def test_a_reader_that_the_same_signal_ended_loses_no_rows(self):
+        read, write = os.pipe()
+        ran = self.begin("--each", "+MHas aoff bf", "--jobs", "2", stdout=write)
+        for it in read, write:
+            os.close(it)
+        time.sleep(1)
+        os.killpg(ran.pid, signal.SIGINT)
+        self.assertEqual(self.ended(ran)[1], f"{self.ENDS(1, 2)}compare: all rows are in ./{self.saved()}: --from reads it\n")
+
+    def test_a_full_disk_loses_no_rows(self):
+        for form in ("text", "csv"):
+            with open("/dev/full", "wb") as full:
+                ran = subprocess.run(self.words(self.file("a.trace", one("alloc 1 100")), "--each", "+MHsbct 1 2", "--as", form),
+                                     cwd=self.room, stdout=full, stderr=subprocess.PIPE, text=True, check=False)
+            name = self.saved()
+            self.assertEqual((ran.returncode, ran.stderr), (1, f"compare: all rows are in ./{name}: --from reads it\n"
+                             "compare: standard output: No space left on device\n"))
+            self.assertEqual([it["carriers_end"] for it in self.rows("--from", name)], [1, 1])
+            os.unlink(f"{self.room}/{name}")
 
     def test_words_that_are_no_command(self):
         trace = self.file("a.trace", one())
