@@ -53,12 +53,15 @@ DECIMALS = {
     "utilisation_most": 1,
     "seconds": 3,
 }
+# What stands in the column of inputs where a row is the sum of several.
+OF_ALL = "(sum)"
 # What is never a bound.
 WITHOUT_BOUNDS = (
     *(it for it in DECIMALS if it not in ("mb_most", "mb_peak", "mb_valley")),
     "percent_end", "percent_most", "percent_peak", "percent_valley",
 )
-# As text, the columns without --columns and --wide: of the memory the first two that are known, the most and what is left.
+# As text, the columns without --columns and --wide: these, two of memory, the first of each kind that is known, and
+# these counts.
 FEW = ("list", "trace", "type", "mark", "ran", "rules")
 MOST, LEFT = ("peak", "most"), ("valley", "end")
 FEW_COUNTS = ("carriers_end", "created", "failed", "stopped", "undone", "status", "said")

@@ -4,17 +4,24 @@ DESCRIPTION = """\
 Runs each trace under each list of flags, and writes one table with a line for each: which flags suit this load?
 It runs the built program and places nothing itself. The program is proved; this tool is not.
 
-Lists of flags are files with the words of one list each, as examples/*.flags, or a grid: each --each has a flag and its
-values, and all combinations are run. With both, each file is combined with the whole grid, whose words come last.
-Flags that all lists begin with stand after --. Traces come before --flags, or after -- where no flags stand there. In
-place of a trace there may be an input of several allocator types: the program is run with the word `types` before the
-flags, and the table has a line for each type. So it is with recorded operations and the word `recorded`; where no +S is
-given, these are run with as many schedulers as they have.
+Lists of flags are files with the words of one list each, as examples/*.flags; alternatives: each --try has the flags of
+one further list, and the list without them is a line, too; or a grid: each --each has a flag and its values, and all
+combinations are run. Each file is combined with all alternatives and with the whole grid, whose words come after its own,
+so that they hold. Flags that all lists begin with stand after --. Traces come before --flags, or after -- where no flags
+stand there. In place of a trace there may be an input of several allocator types: the program is run with the word
+`types` before the flags, and the table has a line for each type. So it is with recorded operations and the word
+`recorded`; where no +S is given, these are run with as many schedulers as they have.
 
+  tools/compare shop.input --flags node.flags --try '+MBsbct 64' --try '+MBsbct 64 +MBlmbcs 512'
   tools/compare examples/busy-days.trace --each '+MHas gf bf' --each '+MHsbct 256 512' -- +MHacul 0 +MHlmbcs 512
 
-Without +MHacul 0 each of these lists would run as aoffcbf: the column `ran` says what ran, and notes below the table say
-how a node would take such flags.
+Without +MHacul 0 each of the last four lists would run as aoffcbf: the column `ran` says what ran, and notes below the
+table say how a node would take such flags.
+
+As text the first list stands first: give the node's own one first. Percent are of its figures. The others are sorted by
+their memory. There are two columns of memory: where the input has comments `# mark peak..` and `# mark valley..`, as
+tools/load writes them, there is a run up to each of these, and the columns are mb_peak and mb_valley; else they are
+mb_most, if it is known, and mb_end. --wide has nearly all columns; CSV and JSON have all.
 """
 
 EPILOG = """\
@@ -22,10 +29,11 @@ The program. Without --program it is the one that ./run takes, at the top of the
 proved one of these sources where there is one, else one that is compiled in two minutes, without a proof, and takes up
 to twice the time. Standard error says so.
 
-What to look at. Memory is mb_most and mb_end: a list that keeps few carriers may keep large ones, so carriers_most says
-nothing of it. A block in a singleblock carrier (blocks_single) costs a carrier of whole pages, and each allocation and
-free of one costs the node calls to the system: a small sbct saves memory by many of them. Where allocations failed the
-table says so below: such lists have less memory for want of what found no place.
+What to look at. Memory is that of the two columns: a list that keeps few carriers may keep large ones, so carriers_most
+says nothing of it. A block in a singleblock carrier (blocks_single) costs a carrier of whole pages, and each allocation
+and free of one costs the node calls to the system: a small sbct saves memory by many of them, as `created` tells. Where
+allocations failed the table says so below: such lists have less memory for want of what found no place. A node with a
+super carrier keeps what it once took of the system, whatever the flags: there compare peaks.
 
 Columns:
 {columns}
@@ -48,6 +56,12 @@ line. The text has no line for a carrier that is created or goes, so these are w
       'At most' counts what an operation holds while it is under way: the carrier that realloc moves a block to, and
       the one that it leaves. utilisation_most is the greatest after an operation.
 
+  created
+      Exact in the same order, and of recorded operations: a block that is placed in a carrier which has none was placed
+      in a new one. A block that another scheduler freed is there until the user of its carrier begins an operation.
+      What this ends with is compared with the carriers of the text. Where they differ, and by turns or as threads, it
+      is a bound: as many as there are numbers of carriers in the text.
+
   With several schedulers by turns, or as threads, the text has no order between their logs, and a further `info` would
   take turns of its own, so that no copy is run. Then:
   carriers_most  An owner's new carrier has the lowest of its 1024 numbers that is free. So its greatest number in the
@@ -64,6 +78,12 @@ line. The text has no line for a carrier that is created or goes, so these are w
                  that places a block in a carrier of another owner has fetched it; what was fetched, or is pooled at the
                  end, was abandoned; what is returning at the end was returned. '-' if it shows nothing.
 
+Of several allocators at once, types of one input or several recorded inputs, --sum adds a line of their sums to each
+list, at each mark that all of them have, or at the end: flags of one letter change nothing for another one, so that one
+list has those of all. As text it is there without this word where the inputs are those of one node: all recorded, each
+of another letter. What they had at most they need not have had at once, so that its sum is a bound; so is mb_peak, where
+it comes from --from without --marks.
+
 A scheduler is stopped after steps, of which other flags make another number an operation takes: then runs of one trace
 did not do the same, and `undone` says how much is missing.
 
@@ -78,6 +98,12 @@ their input has a line `rules`, they run by these rules of a node: the column `r
 tells what was there at moments in between: for each line `# mark NAME` of an input, what a run of it up to there ends
 with; a run ends with the queues taken.
 As threads a run is one of several that there may be. Seconds are of the plain run, beside others as --jobs says.
+
+What is written when. On a terminal each run is told on standard error as it ends. CSV on standard output has its lines as
+soon as they and those before them are there, unless --by sorts them; else the table is written at the end. SIGINT, SIGTERM
+and SIGHUP end all runs, and the table has those that had ended: sent to this command alone or to its group, once or more
+often. Where nothing takes the table, as on a full disk or a terminal that is gone, its rows go to a new file
+compare-NUMBER.json in this folder, or in that for temporary files. --from reads it.
 
 Many lists over several machines: --print-commands prints a line of shell for each run, which runs alone and writes one
 file into the folder of --results. With GNU parallel:

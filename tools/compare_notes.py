@@ -24,7 +24,7 @@ def schedulers_of(row):
 
 
 def has_super_carrier(rules):
-    """Whether a node that has these rules has a super carrier: one without has its carriers at falling addresses, too."""
+    """Whether a node of these rules has a super carrier: one without has its carriers at falling addresses, too."""
     return {"powers", "counter"} <= {*rules.split()} and "falling" not in rules
 
 

@@ -1,12 +1,11 @@
-"""What tools/compare works out of the rows of runs: peaks and valleys, sums over allocators, percent of the first list's."""
+"""What tools/compare works out of the rows of runs: peaks and valleys, sums over allocators, percent."""
 import itertools
 
+from columns import OF_ALL
 from rows import WHOLE, megabytes
 from table import number_of
 
 PEAK, VALLEY = "peak", "valley"
-# What stands in place of an input where the row is a sum.
-OF_ALL = "(sum)"
 AT_ONE_MOMENT = (
     "mb_end", "mb_single", "carriers_end", "units_end", "blocks_end", "blocks_single", "queued", "created", "failed",
     "failed_space", "failed_numbers", "moved", "abandoned", "fetched", "returned", "stopped", "undone", "seconds",
@@ -44,7 +43,7 @@ def at_marks(rows, name):
 
 
 def folded(rows):
-    """One row for each run in place of one for each of its marks: the whole, with what there was at peaks and valleys."""
+    """One row for each run in place of one for each of its marks: the whole, with the memory at peaks and valleys."""
     for group in grouped(rows, "list", "trace", "type"):
         marked = [it for it in group if it.get("mark") not in (None, WHOLE)]
         for it in group:
@@ -93,11 +92,12 @@ def sum_of(rows):
 
 
 def with_sums(rows):
-    """The rows, and before those of a list the sum of all its inputs, or at each mark that all of them have."""
+    """The rows, and before those of a list the sum of all its inputs, or at each mark that all of them have. Where one
+    was refused or failed there is none."""
     for group in grouped(rows, "list"):
         parts = grouped(group, "mark")
         count = len(grouped(group, "trace", "type"))
-        yield from (sum_of(it) for it in parts if len(it) == count > 1)
+        yield from (sum_of(it) for it in parts if len(it) == count > 1 and same(it, "status") == 0)
         yield from group
 
 

@@ -8,7 +8,7 @@ import os
 import sys
 import tempfile
 
-from columns import COLUMNS, DECIMALS, FEW, FEW_COUNTS, HIDDEN, IF_ANY, IF_SEVERAL, LEFT, MOST, OF_WORDS
+from columns import COLUMNS, DECIMALS, FEW, FEW_COUNTS, HIDDEN, IF_ANY, IF_SEVERAL, LEFT, MOST, OF_ALL, OF_WORDS
 from files import reason_of, write_file
 from program import NO_RULES
 from refused import Refused
@@ -36,7 +36,7 @@ def rules_in(rows):
 def columns_of_text(rows, is_wide):
     """Those of a text without --columns."""
     is_shown = {it: any(row.get(it) for row in rows) for it in IF_ANY}
-    is_shown |= {it: len({row.get(it) for row in rows} - {None}) > 1 for it in IF_SEVERAL}
+    is_shown |= {it: len({row.get(it) for row in rows} - {None, OF_ALL}) > 1 for it in IF_SEVERAL}
     is_shown["rules"] = len(rules_in(rows)) > 1
     names = [it for it in COLUMNS if it not in HIDDEN]
     if not is_wide:

@@ -8,6 +8,7 @@ import csv
 import io
 import json
 import os
+import re
 import shlex
 import shutil
 import signal
@@ -326,6 +327,112 @@ class Compare(unittest.TestCase):
         row = self.row(one("idle"), "--program", "./noting", "--each", "+MHas gf")
         self.assertRow(row, said=None, ran="aoffcbf 60")
 
+    # The text
+
+    def table(self, *words):
+        """The cells of the lines of a text, its heads joined, and what stands below."""
+        status, text, said = self.compare(*words)
+        self.assertEqual((status, said), (0, ""))
+        head, _, below = text.partition("\n\n")
+        lines = head.rstrip("\n").split("\n")
+        return [re.split(" {2,}", it.strip()) for it in lines], below.splitlines()
+
+    def test_few_columns_and_nearly_all(self):
+        trace = self.file("a.trace", one("alloc 1 524281", "free 1", "alloc 2 100"))
+        [names, seconds, row], _ = self.table(trace, *KEPT_APART)
+        self.assertEqual(names, "list ran mb percent mb percent carriers created failed".split())
+        self.assertEqual(seconds, "most most end end end".split())
+        self.assertEqual(row, "+MHacul 0|aoffcbf 0|0.5|100|0.2|100|1|2|0".split("|"))
+        wide, _ = self.table(trace, *KEPT_APART, "--wide")
+        self.assertIn("moved", wide[0])
+        self.assertNotIn("percent", wide[0])
+
+    def test_the_most_is_left_out_where_it_is_not_known(self):
+        trace = self.file("a.trace", two(["alloc 1 100"], ["alloc 2 100"], "1*9 2*9"))
+        [names, seconds, _], _ = self.table(trace, "--all", "+S 2")
+        self.assertEqual((names[2:5], seconds), (["mb", "percent", "carriers"], ["end", "end", "end"]))
+
+    def test_the_first_list_stands_first_and_percent_are_of_it(self):
+        """A block that is left, in a multiblock carrier of 2000, 256 or 512 kB, or in one of its own, of 129 pages."""
+        trace = self.file("a.trace", one("alloc 1 524280", "alloc 2 100"))
+        lines, below = self.table(trace, "--try", "+MHsmbcs 2000", "--try", "+MHsmbcs 256", "--try", "+MHsbct 511",
+                                  "--columns", "list,mb_end,percent_end", "--all", "+MHacul 0 +MHlmbcs 1 +MHsmbcs 1000")
+        rows = self.rows(trace, "--try", "+MHsmbcs 2000", "--try", "+MHsmbcs 256", "--try", "+MHsbct 511",
+                         "--all", "+MHacul 0 +MHlmbcs 1 +MHsmbcs 1000")
+        base = rows[0]["mb_end"]
+        wanted = [[it["list"], f"{it['mb_end']:.1f}", str(round(100 * it["mb_end"] / base))] for it in rows]
+        self.assertEqual(lines[2], wanted[0])
+        self.assertEqual(lines[3:], sorted(wanted[1:], key=lambda it: float(it[1])))
+        self.assertEqual([it["percent_end"] for it in rows], [int(it[2]) for it in wanted])
+        self.assertEqual((rows[0]["list"], below), ("(base)", []))
+
+    def test_a_percent_of_what_is_not_known_is_not_known(self):
+        table = [{"list": it[0], "status": 0, "mb_most": it[1], "mb_end": it[2]} for it in (
+            ("a", "<=9", 0.0), ("b", 8, 1.0))]
+        for it in self.rows("--from", self.file("a.json", json.dumps(table))):
+            self.assertRow(it, percent_most=None, percent_end=None)
+
+    # Alternatives
+
+    def test_alternatives_are_lists_of_their_own(self):
+        self.file("node.flags", "+MHacul\n0\n")
+        words = [self.file("a.trace", one("alloc 1 2000")), "--flags", "node.flags", "--try", "+MHsbct 1",
+                 "--try", "+MHsbct 1 +MHas bf"]
+        rows = self.rows(*words)
+        self.assertEqual([(it["list"], it["flags"], it["units_end"]) for it in rows], [
+            ("node.flags", "+MHacul 0", 32768), ("node.flags +MHsbct 1", "+MHacul 0 +MHsbct 1", 512),
+            ("node.flags +MHsbct 1 +MHas bf", "+MHacul 0 +MHsbct 1 +MHas bf", 512)])
+        # As text what all share stands below, and the first one is named.
+        lines, below = self.table(*words, "--columns", "list")
+        self.assertEqual([*map(" ".join, lines[1:])], ["node.flags", "+MHsbct 1", "+MHsbct 1 +MHas bf"])
+        self.assertEqual(below, ["All lists have node.flags."])
+
+    def test_alternatives_beside_a_grid_and_of_each_file(self):
+        for name in "ab":
+            self.file(f"{name}.flags", "")
+        rows = self.rows(self.file("a.trace", one("idle")), "--flags", "a.flags", "b.flags", "--try", "+MHsbct 1",
+                         "--each", "+MHas bf aoff")
+        ends = ["", " +MHsbct 1", " +MHas bf", " +MHas aoff"]
+        self.assertEqual([it["list"] for it in rows], [f"{name}.flags{it}" for name in "ab" for it in ends])
+        self.assertEqual(self.rows("a.trace", "--try", "+MHsbct 1")[0]["list"], "(no flags)")
+
+    def test_a_refused_alternative_names_itself(self):
+        said = self.compare(self.file("a.trace", one()), "--try", "+MHsbct 1 +MHas ff")[2]
+        self.assertEqual(said, f"compare: --try '+MHsbct 1 +MHas ff': ff: bad value\n{NO_STRATEGY}")
+
+    # How many carriers were created
+
+    def test_created(self):
+        """Two of 129 pages with the same number, and one that stays; a main carrier is one, too."""
+        operations = ["alloc 1 524281", "free 1", "alloc 2 524281", "free 2", "alloc 3 100", "alloc 4 100", "free 3"]
+        self.assertRow(self.row(one(*operations), *KEPT_APART), created=3, carriers_end=1)
+        main = self.row(one("alloc 1 524281", "free 1", "alloc 2 100"), *KEPT_APART, "--each", "+MHmmbcs 500")
+        self.assertRow(main, created=2, carriers_end=1)
+        moved = self.row(one("alloc 1 2000", "realloc 1 2 90000", "realloc 2 3 90008"), *KEPT_APART, "--each", "+MHsbct 1")
+        self.assertRow(moved, carriers_end=1, created=moved["moved"] + 1)
+
+    def test_created_of_recorded_operations(self):
+        """The second scheduler's free waits until the first begins an operation: before its `alloc`, so that this
+        creates a carrier, or not before the `take`, in which the carrier goes to nobody."""
+        begin = ["type H", "1 alloc 1 2000", "1 give 1 2", "2 take 1 1", "2 free 1"]
+        for lines, count in ((["1 alloc 2 2000"], 2), (["2 alloc 2 2000", "1 idle", "1 alloc 3 2000"], 3), ([], 1)):
+            [row] = self.recorded("\n".join([*begin, *lines, "end", ""]), "--all", "+S 2", *KEPT_APART, "--each", "+MHsbct 1")
+            self.assertRow(row, created=count, carriers_end=len(lines) and count - 1)
+
+    def test_created_counts_each_row_of_the_steps(self):
+        """Where carriers migrate each one is created by a step."""
+        for flags in ("+MHsbct 16 +MHacul 90", "+MHsbct 64", "+MHacul 60 +MHas ageffcbf"):
+            ran = subprocess.run([program(), "steps", *flags.split()], stdin=open(f"{EXAMPLES}/busy-days.trace", "rb"),
+                                 capture_output=True, text=True, check=True)
+            count = sum(it.split()[3:4] == ["create"] for it in ran.stdout.splitlines())
+            [row] = self.rows(f"{EXAMPLES}/busy-days.trace", "--all", flags)
+            self.assertRow(row, created=count)
+
+    def test_created_is_a_bound_where_the_order_is_not_known(self):
+        row = self.row(two(["alloc 1 100"], ["alloc 2 100"], "1*9 2*9"), "--each", "+S 2", *KEPT_APART)
+        self.assertRow(row, created=">=2")
+        self.assertIsNone(self.row("type H\ngenerate 7 100\nend\n", *KEPT_APART)["created"])
+
     # Memory, blocks and gaps
 
     def test_megabytes(self):
@@ -345,14 +452,15 @@ class Compare(unittest.TestCase):
         # 12502 units of 32768.
         self.assertRow(row, utilisation_each="38.1/-")
 
-    def test_a_text_is_sorted_by_memory_and_what_failed_comes_last(self):
+    def test_after_the_first_list_a_text_is_sorted_by_memory_and_what_failed_comes_last(self):
         trace = self.file("a.trace", one("alloc 1 524280", "alloc 2 100"))
-        text = self.compare(trace, "--each", "+MHsmbcs 2000 256 512", "--all", "+MHacul 0", "--columns", "list,mb_most")[1]
-        self.assertEqual([it.split()[1] for it in text.splitlines()[2:5]], ["256", "512", "2000"])
-        grid = ["--each", "+MMscs 1 2", "--columns", "list,failed"]
+        words = ["--each", "+MHsmbcs 1000 2000 256 512", "--all", "+MHacul 0", "--columns", "list,mb_most"]
+        text = self.compare(trace, *words)[1]
+        self.assertEqual([it.split()[1] for it in text.splitlines()[2:6]], ["1000", "256", "512", "2000"])
+        grid = ["--each", "+MMscs 4 1 2", "--columns", "list,failed"]
         text = self.compare(self.file("b.trace", one("alloc 1 524280", "alloc 2 524280")), *grid, "--", "+MHacul", "0")[1]
-        self.assertEqual([it.split() for it in text.splitlines()[1:3]], [["+MMscs", "2", "0"], ["+MMscs", "1", "1"]])
-        self.assertIn("In 1 of 2 lines allocations failed", text)
+        self.assertEqual([it.split()[1:] for it in text.splitlines()[1:4]], [["4", "0"], ["2", "0"], ["1", "1"]])
+        self.assertIn("In 1 of 3 lines allocations failed", text)
         self.assertIn("Failed for want of pages", text)
 
     def test_what_all_lists_share_stands_below(self):
@@ -450,6 +558,104 @@ class Compare(unittest.TestCase):
         if probe.returncode:
             self.skipTest("this program has no recorded operations")
         return self.rows(self.file("a.input", text), *words)
+
+    PEAKS = ["alloc 1 300000", "alloc 2 300000", "# mark peak-1", "free 1", "# mark valley-1", "alloc 3 400000", "alloc 4 300000",
+             "# mark peak-2", "free 2", "free 3", "# mark valley-2", "free 4"]
+
+    def test_peaks_and_valleys_are_taken_without_a_word(self):
+        """A line for each list all the same. Carriers of 74, 98 pages: 2 and 1 of 74, then 98 and 2 of 74, then one."""
+        trace, words = self.file("a.trace", one(*self.PEAKS)), [*KEPT_APART, "--each", "+MHsbct 1"]
+        [row] = self.rows(trace, *words)
+        self.assertRow(row, mark=None, mb_peak=1.0, mb_valley=0.3, mb_end=0.0, created=4, percent_peak=100)
+        [names, seconds, cells], _ = self.table(trace, *words)
+        self.assertEqual((names[2:6], seconds[:4]), ("mb percent mb percent".split(), "peak peak valley valley".split()))
+        self.assertEqual(cells[2:6], "1.0 100 0.3 100".split())
+        rows = self.rows(trace, *words, "--marks")
+        self.assertEqual([(it["mark"], it["mb_end"], it["mb_peak"]) for it in rows], [
+            ("peak-1", 0.6, None), ("valley-1", 0.3, None), ("peak-2", 1.0, None), ("valley-2", 0.3, None), ("end", 0.0, None)])
+        # Results with these lines make the same table.
+        self.file("a.json", json.dumps(rows))
+        self.assertRow(self.rows("--from", "a.json")[0], mark=None, mb_peak=1.0, mb_valley=0.3)
+        # Other marks are taken where --marks asks for them.
+        [row] = self.rows(self.file("b.trace", one("alloc 1 100", "# mark noon", "free 1")), *words)
+        self.assertRow(row, mark=None, mb_peak=None, mb_valley=None)
+
+    def test_commands_have_the_marks_and_the_seconds(self):
+        trace = self.file("a.trace", one(*self.PEAKS))
+        lines = [self.compare(trace, "--print-commands", *it)[1] for it in ([], ["--seconds", "9"])]
+        self.assertEqual(["--marks" in lines[0], "--seconds 9 " in lines[1], "--seconds" in lines[0]], [True, True, False])
+        self.assertNotIn("--marks", self.compare(self.file("b.trace", one("idle")), "--print-commands")[1])
+
+    # Several allocators of one node
+
+    def both(self, rules="rules powers counter\n"):
+        """Recorded inputs of B and E with two peaks; that of B is the higher one at the second, of E at the first."""
+        probe = subprocess.run([program(), "recorded"], input="type H\nend\n", capture_output=True, text=True, check=False)
+        if probe.returncode:
+            self.skipTest("this program has no recorded operations")
+        made = []
+        for letter, first, second in (("B", 300000, 700000), ("E", 900000, 100000)):
+            lines = [f"alloc 1 {first}", "alloc 2 300000", "# mark peak-1", "free 1", "# mark valley-1", f"alloc 3 {second}",
+                     "# mark peak-2", "free 3"]
+            text = "\n".join(it if it.startswith("#") else f"1 {it}" for it in lines)
+            made.append(self.file(f"{letter.lower()}.input", f"type {letter}\n{rules}{text}\nend\n"))
+        return made
+
+    TIGHT = ["--all", "+Muacul 0", "--try", "+MBsbct 64", "--try", "+MEsbct 64"]
+
+    def test_sums_of_several_allocators(self):
+        """Each sum is that of the lines of the list, at a mark of the same name; what was at most need not have been at
+        once."""
+        files = self.both()
+        rows = self.rows(*files, *self.TIGHT, "--sum", "--marks")
+        self.assertEqual(len(rows), 3 * 3 * 4)
+        for it in rows:
+            if it["type"] == "B+E":
+                parts = [row for row in rows if (row["list"], row["mark"]) == (it["list"], it["mark"]) and row is not it]
+                self.assertEqual([row["type"] for row in parts], ["B", "E"])
+                for name in ("units_end", "carriers_end", "created", "failed", "blocks_end"):
+                    self.assertEqual(it[name], sum(row[name] for row in parts), name)
+                self.assertRow(it, trace="(sum)", mb_end=round(it["units_end"] / 2**17, 1), utilisation_end=None)
+                self.assertEqual(it["carriers_most"], f"<={sum(row['carriers_most'] for row in parts)}")
+
+    def test_the_peak_of_a_sum_is_at_one_moment(self):
+        files = self.both()
+        marked = [it for it in self.rows(*files, *self.TIGHT, "--sum", "--marks") if it["type"] == "B+E"]
+        for row in (it for it in self.rows(*files, *self.TIGHT, "--sum") if it["type"] == "B+E"):
+            mine = {it["mark"]: it["mb_end"] for it in marked if it["list"] == row["list"]}
+            self.assertRow(row, mb_peak=max(mine["peak-1"], mine["peak-2"]), mb_valley=mine["valley-1"])
+        # Of lines without marks it is a bound: each may be of another mark.
+        single = self.rows(*files, *self.TIGHT)
+        [row] = self.rows("--from", self.file("a.json", json.dumps(single[:2])), "--sum")[:1]
+        self.assertEqual(row["mb_peak"], f"<={round(single[0]['mb_peak'] + single[1]['mb_peak'], 1)}")
+
+    def test_where_the_text_has_sums_without_a_word(self):
+        files = self.both()
+        types = self.file("types.trace", several("B E", ["B alloc 1 100", "E alloc 1 100"]))
+        plain = [self.file(f"{it}.trace", one("idle").replace("type H", f"type {it}")) for it in "BE"]
+        for names, is_summed in ((files, True), ([types], True), (files[:1], False), (plain, False), ([*files, files[0]], False)):
+            text = self.compare(*names, "--all", "+Muacul 0")[1]
+            self.assertEqual("B+E" in text, is_summed, names)
+        self.assertEqual(self.rows(types, "--sum")[0]["type"], "B+E")
+        self.assertEqual([it["type"] for it in self.rows(types)], ["B", "E"])
+
+    def test_flags_of_the_other_allocator_are_no_mistake(self):
+        below = self.table(*self.both(), *self.TIGHT)[1]
+        self.assertEqual([it for it in below if "change nothing" in it], [])
+        below = self.table(*self.both(), *self.TIGHT, "--all", "+MHsbct 1")[1]
+        self.assertEqual(len([it for it in below if it.startswith("+MH flags change nothing here")]), 1)
+
+    def test_a_sum_that_lacks_a_part_is_not_there(self):
+        files = self.both()
+        for names in ([files[0], "none", files[1]], [self.file("a.trace", one("idle")), self.file("b.trace", one("frob"))]):
+            rows = self.rows(*names, "--all", "+Muacul 0", "--sum", status=1)
+            self.assertEqual([*{it["trace"]: it for it in rows}], names)
+
+    def test_a_node_with_a_super_carrier(self):
+        for rules, is_told in (("rules powers counter\n", True), ("rules counter powers falling\n", False),
+                               ("rules powers\n", False), ("", False)):
+            text = self.compare(*self.both(rules)[:1], "--all", "+Muacul 0")[1]
+            self.assertEqual("super carrier" in text, is_told, rules)
 
     # Several allocator types
 
@@ -786,7 +992,7 @@ class Compare(unittest.TestCase):
 
     def test_words_that_are_no_command(self):
         trace = self.file("a.trace", one())
-        options = ["--by size", "--each +MHas", "--jobs 0", "--as xml", "--from a.json", "--columns size", "--other"]
+        options = ["--by size", "--each +MHas", "--try +MHas", "--try as,bf", "--from a.json --try +MHas,bf", "--jobs 0", "--as xml", "--from a.json", "--columns size", "--other"]
         for words in ([], ["--flags", "a.flags", trace], *([trace, *it.split()] for it in options)):
             status, text, said = self.compare(*words)
             self.assertEqual((status, text), (2, ""), words)
@@ -859,7 +1065,7 @@ class Compare(unittest.TestCase):
     def test_the_examples_of_help(self):
         """Its first table has lists that differ in what ran and in its figures; its commands are lines of shell."""
         lines = [it.strip() for it in self.compare("--help")[1].splitlines() if it.startswith("  tools/compare ")]
-        first, commands, _ = lines
+        _, first, commands, _ = lines
         words = shlex.split(first)[1:]
         cut = words.index("--")
         status, text, said = self.compare(*words[:cut], "--as", "json", *words[cut:], folder=TOP)
