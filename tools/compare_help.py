@@ -6,10 +6,10 @@ It runs the built program and places nothing itself. The program is proved; this
 
 Lists of flags are files with the words of one list each, as examples/*.flags; alternatives: each --try has the flags of
 one further list, and the list without them is a line, too; or a grid: each --each has a flag and its values, and all
-combinations are run. Each file is combined with all alternatives and with the whole grid, whose words come after its own,
-so that they hold. Flags that all lists begin with stand after --. Traces come before --flags, or after -- where no flags
-stand there. In place of a trace there may be an input of several allocator types: the program is run with the word
-`types` before the flags, and the table has a line for each type. So it is with recorded operations and the word
+combinations are run. Each file is combined with all alternatives and with the whole grid, whose words come after its
+own, so that they hold. Flags that all lists begin with stand after --. Traces come before --flags, or after -- where no
+flags stand there. In place of a trace there may be an input of several allocator types: the program is run with the
+word `types` before the flags, and the table has a line for each type. So it is with recorded operations and the word
 `recorded`; where no +S is given, these are run with as many schedulers as they have.
 
   tools/compare shop.input --flags node.flags --try '+MBsbct 64' --try '+MBsbct 64 +MBlmbcs 512'
@@ -81,8 +81,8 @@ line. The text has no line for a carrier that is created or goes, so these are w
 Of several allocators at once, types of one input or several recorded inputs, --sum adds a line of their sums to each
 list, at each mark that all of them have, or at the end: flags of one letter change nothing for another one, so that one
 list has those of all. As text it is there without this word where the inputs are those of one node: all recorded, each
-of another letter. What they had at most they need not have had at once, so that its sum is a bound; so is mb_peak, where
-it comes from --from without --marks.
+of another letter. What they had at most they need not have had at once, so that its sum is a bound; so is mb_peak,
+where --from takes lines without marks.
 
 A scheduler is stopped after steps, of which other flags make another number an operation takes: then runs of one trace
 did not do the same, and `undone` says how much is missing.
@@ -99,11 +99,11 @@ tells what was there at moments in between: for each line `# mark NAME` of an in
 with; a run ends with the queues taken.
 As threads a run is one of several that there may be. Seconds are of the plain run, beside others as --jobs says.
 
-What is written when. On a terminal each run is told on standard error as it ends. CSV on standard output has its lines as
-soon as they and those before them are there, unless --by sorts them; else the table is written at the end. SIGINT, SIGTERM
-and SIGHUP end all runs, and the table has those that had ended: sent to this command alone or to its group, once or more
-often. Where nothing takes the table, as on a full disk or a terminal that is gone, its rows go to a new file
-compare-NUMBER.json in this folder, or in that for temporary files. --from reads it.
+What is written when. On a terminal each run is told on standard error as it ends. CSV on standard output has its lines
+as soon as they and those before them are there, unless --by sorts them; else the table is written at the end. SIGINT,
+SIGTERM and SIGHUP end all runs, and the table has those that had ended: sent to this command alone or to its group,
+once or more often. Where nothing takes the table, as on a full disk or a terminal that is gone, its rows go to a new
+file compare-NUMBER.json in this folder, or in that for temporary files. --from reads it.
 
 Many lists over several machines: --print-commands prints a line of shell for each run, which runs alone and writes one
 file into the folder of --results. With GNU parallel:

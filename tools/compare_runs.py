@@ -63,9 +63,9 @@ def wants_marks(file, options):
     return options.marks or bool(PEAKS.search(read_input(file)[0] or b""))
 
 
-def rows_of_task(program, flags, file, options):
-    marks = wants_marks(file, options)
-    return rows_of_run(program, flags, file, argparse.Namespace(marks=marks, seconds=options.seconds))
+def rows_of_task(program, options, flags, file):
+    options = argparse.Namespace(**{**vars(options), "marks": wants_marks(file, options)})
+    return rows_of_run(program, flags, file, options)
 
 
 # The process of a run

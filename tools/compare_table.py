@@ -18,6 +18,8 @@ class Table:
 
     def __init__(self, options, output):
         self.options, self.output = options, output
+        # Why what was written before the end could not be.
+        self.fault = None
 
     def take(self, found):
         """Gets the rows of all runs that have ended, None for the others, after each of them."""
@@ -54,15 +56,13 @@ class Streamed(Table):
     def __init__(self, options, output):
         super().__init__(options, output)
         self.size = len(options.traces) if options.is_summed else 1
-        self.percents, self.at, self.written, self.fault = Percents(), 0, 0, None
+        self.percents, self.at, self.written = Percents(), 0, 0
 
     def take(self, found):
         while self.at < len(found) and all(found[self.at : self.at + self.size]) and not self.fault:
             rows = [row for part in found[self.at : self.at + self.size] for row in part]
             try:
                 self.write(rows)
-            except BrokenPipeError:
-                raise
             except OSError as error:
                 self.fault = error
             self.at += self.size

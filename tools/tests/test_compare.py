@@ -408,7 +408,8 @@ class Compare(unittest.TestCase):
         self.assertRow(self.row(one(*operations), *KEPT_APART), created=3, carriers_end=1)
         main = self.row(one("alloc 1 524281", "free 1", "alloc 2 100"), *KEPT_APART, "--each", "+MHmmbcs 500")
         self.assertRow(main, created=2, carriers_end=1)
-        moved = self.row(one("alloc 1 2000", "realloc 1 2 90000", "realloc 2 3 90008"), *KEPT_APART, "--each", "+MHsbct 1")
+        operations = ["alloc 1 2000", "realloc 1 2 90000", "realloc 2 3 90008"]
+        moved = self.row(one(*operations), *KEPT_APART, "--each", "+MHsbct 1")
         self.assertRow(moved, carriers_end=1, created=moved["moved"] + 1)
 
     def test_created_of_recorded_operations(self):
@@ -416,7 +417,8 @@ class Compare(unittest.TestCase):
         creates a carrier, or not before the `take`, in which the carrier goes to nobody."""
         begin = ["type H", "1 alloc 1 2000", "1 give 1 2", "2 take 1 1", "2 free 1"]
         for lines, count in ((["1 alloc 2 2000"], 2), (["2 alloc 2 2000", "1 idle", "1 alloc 3 2000"], 3), ([], 1)):
-            [row] = self.recorded("\n".join([*begin, *lines, "end", ""]), "--all", "+S 2", *KEPT_APART, "--each", "+MHsbct 1")
+            text = "\n".join([*begin, *lines, "end", ""])
+            [row] = self.recorded(text, "--all", "+S 2", *KEPT_APART, "--each", "+MHsbct 1")
             self.assertRow(row, created=count, carriers_end=len(lines) and count - 1)
 
     def test_created_counts_each_row_of_the_steps(self):
@@ -559,8 +561,8 @@ class Compare(unittest.TestCase):
             self.skipTest("this program has no recorded operations")
         return self.rows(self.file("a.input", text), *words)
 
-    PEAKS = ["alloc 1 300000", "alloc 2 300000", "# mark peak-1", "free 1", "# mark valley-1", "alloc 3 400000", "alloc 4 300000",
-             "# mark peak-2", "free 2", "free 3", "# mark valley-2", "free 4"]
+    PEAKS = ["alloc 1 300000", "alloc 2 300000", "# mark peak-1", "free 1", "# mark valley-1", "alloc 3 400000",
+             "alloc 4 300000", "# mark peak-2", "free 2", "free 3", "# mark valley-2", "free 4"]
 
     def test_peaks_and_valleys_are_taken_without_a_word(self):
         """A line for each list all the same. Carriers of 74, 98 pages: 2 and 1 of 74, then 98 and 2 of 74, then one."""
@@ -568,11 +570,13 @@ class Compare(unittest.TestCase):
         [row] = self.rows(trace, *words)
         self.assertRow(row, mark=None, mb_peak=1.0, mb_valley=0.3, mb_end=0.0, created=4, percent_peak=100)
         [names, seconds, cells], _ = self.table(trace, *words)
-        self.assertEqual((names[2:6], seconds[:4]), ("mb percent mb percent".split(), "peak peak valley valley".split()))
+        self.assertEqual(names[2:6], "mb percent mb percent".split())
+        self.assertEqual(seconds[:4], "peak peak valley valley".split())
         self.assertEqual(cells[2:6], "1.0 100 0.3 100".split())
         rows = self.rows(trace, *words, "--marks")
         self.assertEqual([(it["mark"], it["mb_end"], it["mb_peak"]) for it in rows], [
-            ("peak-1", 0.6, None), ("valley-1", 0.3, None), ("peak-2", 1.0, None), ("valley-2", 0.3, None), ("end", 0.0, None)])
+            ("peak-1", 0.6, None), ("valley-1", 0.3, None), ("peak-2", 1.0, None), ("valley-2", 0.3, None),
+            ("end", 0.0, None)])
         # Results with these lines make the same table.
         self.file("a.json", json.dumps(rows))
         self.assertRow(self.rows("--from", "a.json")[0], mark=None, mb_peak=1.0, mb_valley=0.3)
@@ -583,7 +587,8 @@ class Compare(unittest.TestCase):
     def test_commands_have_the_marks_and_the_seconds(self):
         trace = self.file("a.trace", one(*self.PEAKS))
         lines = [self.compare(trace, "--print-commands", *it)[1] for it in ([], ["--seconds", "9"])]
-        self.assertEqual(["--marks" in lines[0], "--seconds 9 " in lines[1], "--seconds" in lines[0]], [True, True, False])
+        self.assertIn("--marks", lines[0])
+        self.assertEqual(["--seconds 9 " in it for it in lines], [False, True])
         self.assertNotIn("--marks", self.compare(self.file("b.trace", one("idle")), "--print-commands")[1])
 
     # Several allocators of one node
@@ -595,8 +600,8 @@ class Compare(unittest.TestCase):
             self.skipTest("this program has no recorded operations")
         made = []
         for letter, first, second in (("B", 300000, 700000), ("E", 900000, 100000)):
-            lines = [f"alloc 1 {first}", "alloc 2 300000", "# mark peak-1", "free 1", "# mark valley-1", f"alloc 3 {second}",
-                     "# mark peak-2", "free 3"]
+            lines = [f"alloc 1 {first}", "alloc 2 300000", "# mark peak-1", "free 1", "# mark valley-1",
+                     f"alloc 3 {second}", "# mark peak-2", "free 3"]
             text = "\n".join(it if it.startswith("#") else f"1 {it}" for it in lines)
             made.append(self.file(f"{letter.lower()}.input", f"type {letter}\n{rules}{text}\nend\n"))
         return made
@@ -611,8 +616,9 @@ class Compare(unittest.TestCase):
         self.assertEqual(len(rows), 3 * 3 * 4)
         for it in rows:
             if it["type"] == "B+E":
-                parts = [row for row in rows if (row["list"], row["mark"]) == (it["list"], it["mark"]) and row is not it]
-                self.assertEqual([row["type"] for row in parts], ["B", "E"])
+                of_both = [row for row in rows if (row["list"], row["mark"]) == (it["list"], it["mark"])]
+                self.assertEqual([row["type"] for row in of_both], ["B+E", "B", "E"])
+                parts = of_both[1:]
                 for name in ("units_end", "carriers_end", "created", "failed", "blocks_end"):
                     self.assertEqual(it[name], sum(row[name] for row in parts), name)
                 self.assertRow(it, trace="(sum)", mb_end=round(it["units_end"] / 2**17, 1), utilisation_end=None)
@@ -633,7 +639,9 @@ class Compare(unittest.TestCase):
         files = self.both()
         types = self.file("types.trace", several("B E", ["B alloc 1 100", "E alloc 1 100"]))
         plain = [self.file(f"{it}.trace", one("idle").replace("type H", f"type {it}")) for it in "BE"]
-        for names, is_summed in ((files, True), ([types], True), (files[:1], False), (plain, False), ([*files, files[0]], False)):
+        other = shutil.copy(f"{self.room}/{files[0]}", f"{self.room}/other.input")
+        for names, is_summed in ((files, True), ([types], True), (files[:1], False), (plain, False),
+                                 ([*files, other], False)):
             text = self.compare(*names, "--all", "+Muacul 0")[1]
             self.assertEqual("B+E" in text, is_summed, names)
         self.assertEqual(self.rows(types, "--sum")[0]["type"], "B+E")
@@ -647,7 +655,8 @@ class Compare(unittest.TestCase):
 
     def test_a_sum_that_lacks_a_part_is_not_there(self):
         files = self.both()
-        for names in ([files[0], "none", files[1]], [self.file("a.trace", one("idle")), self.file("b.trace", one("frob"))]):
+        others = [self.file("a.trace", one("idle")), self.file("b.trace", one("frob"))]
+        for names in ([files[0], "none", files[1]], others):
             rows = self.rows(*names, "--all", "+Muacul 0", "--sum", status=1)
             self.assertEqual([*{it["trace"]: it for it in rows}], names)
 
@@ -844,6 +853,15 @@ class Compare(unittest.TestCase):
             ran.stdout.close()
             self.assertEqual((ran.stderr.read(), ran.wait()), (b"", 1))
 
+    def test_a_closed_pipe_ends_runs_whose_lines_nobody_reads(self):
+        read, write = os.pipe()
+        ran = self.begin("--each", "+MHas bf aoff", "--jobs", "1", "--as", "csv", "--seconds", "2", stdout=write)
+        for it in read, write:
+            os.close(it)
+        said = ran.communicate(timeout=30)[1]
+        self.assertEqual((said, ran.returncode), ("compare: a.trace: +MHas bf: it was ended after 2 seconds\n", 1))
+        self.assertEqual([it for it in os.listdir(self.room) if it.startswith("compare-")], [])
+
     # Signals
 
     ENDS = "compare: interrupted: {} of {} runs had ended\n".format
@@ -900,7 +918,8 @@ class Compare(unittest.TestCase):
                     text, said = self.ended(ran)
                     self.assertEqual(said, self.ENDS(1, 3))
                     note = "+MHas gf with acul 60 runs as aoffcbf; a node would set acul 0: add +MHacul 0."
-                    self.assertEqual(text, f"list      status\n+MHas gf       0\n\n{note}\nInterrupted: 1 of 3 runs had ended.\n")
+                    below = f"{note}\nInterrupted: 1 of 3 runs had ended.\n"
+                    self.assertEqual(text, f"list      status\n+MHas gf       0\n\n{below}")
 
     def test_timeout(self):
         """It sends its signal to the tool, and to the group as well. The status is its own."""
@@ -913,7 +932,8 @@ class Compare(unittest.TestCase):
         self.assertEqual(self.runs_here(), [])
 
     def test_a_signal_while_several_runs_are_under_way(self):
-        ran = self.begin("--jobs", "3", "--each", "+MHas bf", "--each", "+MHsbct 1 2 3", "--as", "json", "--columns", "list")
+        grid = ["--each", "+MHas bf", "--each", "+MHsbct 1 2 3"]
+        ran = self.begin("--jobs", "3", *grid, "--as", "json", "--columns", "list")
         os.killpg(ran.pid, signal.SIGTERM)
         text, said = self.ended(ran)
         self.assertEqual((json.loads(text), said), ([], self.ENDS(0, 3)))
@@ -927,6 +947,26 @@ class Compare(unittest.TestCase):
                 break
             time.sleep(0.1)
         self.assertEqual(self.runs_here(), [])
+
+    def test_the_process_of_a_run_that_is_killed(self):
+        """Its line says so, and the others have theirs."""
+        ran = self.begin("--each", "+MHas bf gf", "--as", "json", "--columns", "list,status,said")
+        for it in filter(str.isdigit, os.listdir("/proc")):
+            try:
+                with open(f"/proc/{it}/stat", encoding="utf-8") as file:
+                    is_its_child = file.read().rpartition(")")[2].split()[1] == str(ran.pid)
+            except OSError:
+                continue
+            if is_its_child:
+                os.kill(int(it), signal.SIGKILL)
+        text, said = ran.communicate(timeout=20)
+        killed = "a process of this tool was killed"
+        self.assertEqual((ran.returncode, said), (1, f"compare: {killed}\n"))
+        self.assertEqual(json.loads(text), [{"list": "+MHas bf", "status": None, "said": killed},
+                                            {"list": "+MHas gf", "status": 0, "said": None}])
+        # The run itself has nobody who ends it.
+        for it in self.runs_here():
+            os.kill(int(it), signal.SIGKILL)
 
     def test_csv_has_a_line_as_soon_as_a_run_has_ended(self):
         """In the order of the lists: what ends later and comes first is waited for. A signal has the rest written."""
@@ -945,8 +985,8 @@ class Compare(unittest.TestCase):
     def test_a_terminal_shows_each_run_as_it_ends(self):
         master, terminal = os.openpty()
         self.addCleanup(os.close, master)
-        ran = subprocess.Popen(self.words(self.file("a.trace", one("alloc 1 100")), "--jobs", "1", "--each", "+MHsbct 1 2",
-                               *KEPT_APART), cwd=self.room, stdout=subprocess.PIPE, stderr=terminal, text=True)
+        words = [self.file("a.trace", one("alloc 1 100")), "--jobs", "1", "--each", "+MHsbct 1 2", *KEPT_APART]
+        ran = subprocess.Popen(self.words(*words), cwd=self.room, stdout=subprocess.PIPE, stderr=terminal, text=True)
         text = ran.communicate(timeout=60)[0]
         os.close(terminal)
         shown = os.read(master, 10000).decode().replace("\r\033[K", "\n").replace("\r\n", "\n").split("\n")
@@ -971,19 +1011,23 @@ class Compare(unittest.TestCase):
         self.assertRow(row, list="+MHas aoff", status=0)
 
     def test_a_reader_that_the_same_signal_ended_loses_no_rows(self):
-        read, write = os.pipe()
-        ran = self.begin("--each", "+MHas aoff bf", "--jobs", "2", stdout=write)
-        for it in read, write:
-            os.close(it)
-        time.sleep(1)
-        os.killpg(ran.pid, signal.SIGINT)
-        self.assertEqual(self.ended(ran)[1], f"{self.ENDS(1, 2)}compare: all rows are in ./{self.saved()}: --from reads it\n")
+        for form, grid in (("text", "+MHas aoff bf"), ("csv", "+MHas bf aoff")):
+            read, write = os.pipe()
+            ran = self.begin("--each", grid, "--jobs", "2", "--as", form, stdout=write)
+            for it in read, write:
+                os.close(it)
+            time.sleep(1)
+            os.killpg(ran.pid, signal.SIGINT)
+            said, name = self.ended(ran)[1], self.saved()
+            self.assertEqual(said, f"{self.ENDS(1, 2)}compare: all rows are in ./{name}: --from reads it\n")
+            os.unlink(f"{self.room}/{name}")
 
     def test_a_full_disk_loses_no_rows(self):
+        words = [self.file("a.trace", one("alloc 1 100")), "--each", "+MHsbct 1 2"]
         for form in ("text", "csv"):
             with open("/dev/full", "wb") as full:
-                ran = subprocess.run(self.words(self.file("a.trace", one("alloc 1 100")), "--each", "+MHsbct 1 2", "--as", form),
-                                     cwd=self.room, stdout=full, stderr=subprocess.PIPE, text=True, check=False)
+                ran = subprocess.run(self.words(*words, "--as", form), cwd=self.room, stdout=full,
+                                     stderr=subprocess.PIPE, text=True, check=False)
             name = self.saved()
             self.assertEqual((ran.returncode, ran.stderr), (1, f"compare: all rows are in ./{name}: --from reads it\n"
                              "compare: standard output: No space left on device\n"))
@@ -992,8 +1036,10 @@ class Compare(unittest.TestCase):
 
     def test_words_that_are_no_command(self):
         trace = self.file("a.trace", one())
-        options = ["--by size", "--each +MHas", "--try +MHas", "--try as,bf", "--from a.json --try +MHas,bf", "--jobs 0", "--as xml", "--from a.json", "--columns size", "--other"]
-        for words in ([], ["--flags", "a.flags", trace], *([trace, *it.split()] for it in options)):
+        options = ["--by size", "--each +MHas", "--try +MHas", "--try as,bf",
+                   "--jobs 0", "--as xml", "--from a.json", "--columns size", "--other"]
+        others = [["--flags", "a.flags", trace], ["--from", "a.json", "--try", "+MHas bf"]]
+        for words in ([], *others, *([trace, *it.split()] for it in options)):
             status, text, said = self.compare(*words)
             self.assertEqual((status, text), (2, ""), words)
             self.assertIn("compare: error: ", said)
