@@ -63,14 +63,14 @@ WITHOUT_BOUNDS = (
 # As text, the columns without --columns and --wide: these, two of memory, the first of each kind that is known, and
 # these counts.
 FEW = ("list", "trace", "type", "mark", "ran", "rules")
-MOST, LEFT = ("peak", "most"), ("valley", "end")
 FEW_COUNTS = ("carriers_end", "created", "failed", "stopped", "undone", "status", "said")
-# With --wide these are left out as text; and in any text these where no run has anything to say there, and these where
-# all say the same.
+# With --wide these are left out as text; and in any text these where no run has anything to say there, these where it is
+# not known of any, and these where all say the same.
 HIDDEN = (
     "flags", "units_end", "units_most", "utilisation_each", "mb_single", "failed_space", "failed_numbers",
     "percent_end", "percent_most", "percent_peak", "percent_valley",
 )
-IF_ANY = ("status", "said", "stopped", "undone", "mb_peak", "mb_valley")
+IF_ANY = ("status", "said", "stopped", "undone")
+IF_KNOWN = ("mb_peak", "mb_valley")
 IF_SEVERAL = ("trace", "type", "mark")
 OF_WORDS = ("list", "flags", "trace", "type", "ran", "rules", "mark", "utilisation_each", "said")

@@ -8,7 +8,7 @@ import os
 import sys
 import tempfile
 
-from columns import COLUMNS, DECIMALS, FEW, FEW_COUNTS, HIDDEN, IF_ANY, IF_SEVERAL, LEFT, MOST, OF_ALL, OF_WORDS
+from columns import COLUMNS, DECIMALS, FEW, FEW_COUNTS, HIDDEN, IF_ANY, IF_KNOWN, IF_SEVERAL, OF_ALL, OF_WORDS
 from files import reason_of, write_file
 from program import NO_RULES
 from refused import Refused
@@ -22,10 +22,11 @@ def is_known(rows, column):
 
 
 def memories(rows):
-    """The most memory and what is left of it, as two columns: at the marks of peaks and valleys, or of the whole run.
-    The first one is None where it is not known of any."""
-    most = next((it for it in MOST if is_known(rows, f"mb_{it}")), None)
-    return most, next((it for it in LEFT if is_known(rows, f"mb_{it}")), LEFT[-1])
+    """The most memory and what is left of it, as two columns: at the marks of peaks and valleys where there are some, or
+    of the whole run. The first one is None where it is not known of each run that ended well."""
+    is_most = all(it.get("mb_most") is not None for it in rows if it.get("status") == 0)
+    first = "peak" if is_known(rows, "mb_peak") else "most" if is_most else None
+    return first, "valley" if is_known(rows, "mb_valley") else "end"
 
 
 def rules_in(rows):
@@ -36,6 +37,7 @@ def rules_in(rows):
 def columns_of_text(rows, is_wide):
     """Those of a text without --columns."""
     is_shown = {it: any(row.get(it) for row in rows) for it in IF_ANY}
+    is_shown |= {it: is_known(rows, it) for it in IF_KNOWN}
     is_shown |= {it: len({row.get(it) for row in rows} - {None, OF_ALL}) > 1 for it in IF_SEVERAL}
     is_shown["rules"] = len(rules_in(rows)) > 1
     names = [it for it in COLUMNS if it not in HIDDEN]
