@@ -61,9 +61,9 @@ def added(values):
     signs = {it[:2] for it in values if isinstance(it, str)}
     if None in values or len(signs) > 1:
         return None
-    total = sum(map(number_of, values))
-    total = round(total, 3) if any(isinstance(it, float) for it in values) else total
-    return f"{signs.pop()}{total:g}" if signs else total
+    total = round(sum(map(number_of, values)), 3)
+    total = total if any("." in str(it) for it in values) else int(total)
+    return f"{signs.pop()}{total}" if signs else total
 
 
 def added_at_most(values):

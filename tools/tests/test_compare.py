@@ -635,6 +635,19 @@ class Compare(unittest.TestCase):
         [row] = self.rows("--from", self.file("a.json", json.dumps(single[:2])), "--sum")[:1]
         self.assertEqual(row["mb_peak"], f"<={round(single[0]['mb_peak'] + single[1]['mb_peak'], 1)}")
 
+    def test_sums_of_bounds(self):
+        """Of one kind they are one of that kind; without units the megabytes are added."""
+        first = {"list": "a", "trace": "b", "type": "B", "status": 0, "created": ">=900000", "failed": 1,
+                 "carriers_most": "<=4", "mb_most": 1.5, "mb_end": 1.0, "abandoned": "<=1", "fetched": None}
+        second = {**first, "trace": "e", "type": "E", "created": 100001, "mb_most": 2.0, "abandoned": ">=1"}
+        row = self.rows("--from", self.file("a.json", json.dumps([first, second])), "--sum")[0]
+        self.assertRow(row, trace="(sum)", type="B+E", created=">=1000001", failed=2, carriers_most="<=8")
+        self.assertRow(row, mb_most="<=3.5", mb_end=2.0, abandoned=None, fetched=None)
+        # Where one alone has any, it is what all have at most.
+        second |= {"carriers_most": 0, "mb_most": 0.0}
+        row = self.rows("--from", self.file("a.json", json.dumps([{**first, "carriers_most": 4}, second])), "--sum")[0]
+        self.assertRow(row, carriers_most=4, mb_most=1.5)
+
     def test_where_the_text_has_sums_without_a_word(self):
         files = self.both()
         types = self.file("types.trace", several("B E", ["B alloc 1 100", "E alloc 1 100"]))
