@@ -65,8 +65,9 @@ def with_schedulers(flags, data):
 # Runs
 
 # Those that are under way, of this process, and whether they were to end: a run that begins after that ends at once.
+# Who holds the lock knows all of them: none begins meanwhile, but within a signal's handler.
 RUNNING = set()
-LOCK = threading.Lock()
+LOCK = threading.RLock()
 IS_OVER = threading.Event()
 # What is said of a run whose seconds were over begins so.
 ENDED = "it was ended"
@@ -79,9 +80,10 @@ class Ended(Exception):
 def run(words, data, seconds=None):
     """What a run of these words with this input did. It is ended when its seconds are over, or by end_runs."""
     how = {"stdin": subprocess.PIPE, "stdout": subprocess.PIPE, "stderr": subprocess.PIPE, "start_new_session": True}
-    with subprocess.Popen(words, **how) as child:
-        with LOCK:
-            RUNNING.add(child)
+    with LOCK:
+        child = subprocess.Popen(words, **how)
+        RUNNING.add(child)
+    with child:
         if IS_OVER.is_set():
             kill(child)
         try:

@@ -8,6 +8,7 @@ from collections import Counter
 from dataclasses import replace
 
 from columns import DECIMALS
+from created import created
 from files import reason_of
 from flags import Settings, as_on_a_node, letters_of
 from program import NO_RULES, OF_RECORDED, Ended, command_of, is_said, run, told_of, with_schedulers
@@ -91,6 +92,7 @@ def counted(trace, text):
         "mb_end": megabytes(total["units"]),
         "utilisation_end": percent(total["live"] + total["queued"], total["units"]),
         **({} if is_generated else {**of_blocks(text), "utilisation_each": utilisation_each(text)}),
+        "created": None if is_generated else created(trace, text),
         "failed": text.generated_failed if is_generated else sum(reasons.values()),
         "failed_space": None if is_generated else reasons["space"],
         "failed_numbers": None if is_generated else reasons["numbers"],

@@ -1,4 +1,5 @@
 """Tables and where they go, for tools/compare."""
+import contextlib
 import csv
 import errno
 import io
@@ -7,9 +8,46 @@ import os
 import sys
 import tempfile
 
-from columns import DECIMALS, OF_WORDS
-from files import reason_of
+from columns import COLUMNS, DECIMALS, FEW, FEW_COUNTS, HIDDEN, IF_ANY, IF_KNOWN, IF_SEVERAL, OF_ALL, OF_WORDS
+from files import reason_of, write_file
+from program import NO_RULES
 from refused import Refused
+
+
+# The columns of a text
+
+
+def is_known(rows, column):
+    return any(it.get(column) is not None for it in rows)
+
+
+def memories(rows):
+    """The most memory and what is left of it, as two columns: at the marks of peaks and valleys where there are some, or
+    of the whole run. The first one is None where it is not known of each run that ended well."""
+    is_most = all(it.get("mb_most") is not None for it in rows if it.get("status") == 0)
+    first = "peak" if is_known(rows, "mb_peak") else "most" if is_most else None
+    return first, "valley" if is_known(rows, "mb_valley") else "end"
+
+
+def rules_in(rows):
+    """By which rules the runs were that ended well."""
+    return {it.get("rules") or NO_RULES for it in rows if it.get("status") == 0}
+
+
+def columns_of_text(rows, is_wide):
+    """Those of a text without --columns."""
+    is_shown = {it: any(row.get(it) for row in rows) for it in IF_ANY}
+    is_shown |= {it: is_known(rows, it) for it in IF_KNOWN}
+    is_shown |= {it: len({row.get(it) for row in rows} - {None, OF_ALL}) > 1 for it in IF_SEVERAL}
+    is_shown["rules"] = len(rules_in(rows)) > 1
+    names = [it for it in COLUMNS if it not in HIDDEN]
+    if not is_wide:
+        of_memory = [f"{what}_{it}" for it in memories(rows) if it for what in ("mb", "percent")]
+        names = [*FEW, *of_memory, *FEW_COUNTS]
+    return [it for it in names if is_shown.get(it, True)]
+
+
+# Orders
 
 
 def number_of(value):
@@ -25,11 +63,21 @@ def by_column(rows, column, is_reversed):
 
 
 def by_memory(rows):
-    """The rows by mb_most, or by mb_end where that of one is not known; those whose allocations failed last, since what
-    found no place needs no memory."""
-    column = "mb_most" if all(it.get("mb_most") is not None for it in rows if it.get("status") == 0) else "mb_end"
-    rows = by_column(rows, column, False)
+    """The rows by the most memory, or by what is left where the most of one is not known or is the same; those whose
+    allocations failed last, since what found no place needs no memory."""
+    most, left = memories(rows)
+    rows = by_column(rows, f"mb_{left}", False)
+    if most and all(it.get(f"mb_{most}") is not None for it in rows if it.get("status") == 0):
+        rows = by_column(rows, f"mb_{most}", False)
     return [it for it in rows if not it.get("failed")] + [it for it in rows if it.get("failed")]
+
+
+def first_list_first(groups):
+    """The rows of each group, which has those of one input: of the first list, and then the others by their memory."""
+    first = next((it.get("list") for group in groups for it in group), None)
+    for group in groups:
+        yield from (it for it in group if it.get("list") == first)
+        yield from by_memory([it for it in group if it.get("list") != first])
 
 
 # The names of lists
@@ -57,7 +105,8 @@ def with_short_names(rows):
     """The rows with what differs between their lists alone, and what all of these share."""
     shared = shared_parts(rows)
     short = {it: " ".join(part for part in parts_of(it) if part not in shared) for it in (row["list"] for row in rows)}
-    return [{**it, "list": short[it["list"]] or "(these alone)"} for it in rows], " ".join(shared)
+    alone = "(these alone)" if len(shared) > 1 else " ".join(shared)
+    return [{**it, "list": short[it["list"]] or alone} for it in rows], " ".join(shared)
 
 
 def cell(row, column, unknown):
@@ -136,7 +185,19 @@ class Output:
 
 
 def write_all(data):
+    """Writes to standard output, past what Python keeps back and would try again at its end."""
     if not sys.stdout:
-        raise Refused(f"standard output: {os.strerror(errno.EBADF)}")
-    sys.stdout.buffer.write(data)
-    sys.stdout.buffer.flush()
+        raise OSError(errno.EBADF, os.strerror(errno.EBADF))
+    while data:
+        data = data[os.write(sys.stdout.fileno(), data) :]
+
+
+def saved(rows):
+    """Writes rows to a file, which --from reads, and returns its path; None where that cannot be, either."""
+    text = "".join(as_json(rows, [*COLUMNS])).encode()
+    for folder in (os.curdir, tempfile.gettempdir()):
+        path = os.path.join(folder, f"compare-{os.getpid()}.json")
+        with contextlib.suppress(Refused):
+            write_file(path, text)
+            return path
+    return None

@@ -98,6 +98,8 @@ class Trace:
     is_threaded: bool
     # Of recorded operations the rules of a node by which they run: the empty text where they name none.
     rules: str = None
+    # Of recorded operations the scheduler of each, in their order.
+    order: list = None
 
     def has_one_order(self):
         """Whether each scheduler does all of its operations before the next one begins, or one alone has any."""
@@ -147,14 +149,15 @@ def read_traces(text):
 def read_recorded(lines):
     """The trace of recorded operations: those of each scheduler. How many there are the lines need not tell; one that
     has none has an empty section, and so have those that only the flags know, of which nothing is asked."""
-    sections = {}
+    sections, order = {}, []
     for line in lines[1:]:
         me, _, operation = line.strip().partition(b" ")
         if me.isdigit():
             sections.setdefault(int(me), []).append(operation.strip())
+            order.append(int(me))
     count = max(sections, default=1)
     parts = [sections.get(it, []) for it in range(1, count + 1)]
-    return Trace(lines[0].split()[1].decode(), parts, {}, True, False, rules_of(lines))
+    return Trace(lines[0].split()[1].decode(), parts, {}, True, False, rules_of(lines), order)
 
 
 def read_texts(text):

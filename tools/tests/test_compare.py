@@ -8,6 +8,7 @@ import csv
 import io
 import json
 import os
+import re
 import shlex
 import shutil
 import signal
@@ -383,6 +384,114 @@ class Compare(unittest.TestCase):
         row = self.row(one("idle"), "--program", "./noting", "--each", "+MHas gf")
         self.assertRow(row, said=None, ran="gf 0")
 
+    # The text
+
+    def table(self, *words):
+        """The cells of the lines of a text, its heads joined, and what stands below."""
+        status, text, said = self.compare(*words)
+        self.assertEqual((status, said), (0, ""))
+        head, _, below = text.partition("\n\n")
+        lines = head.rstrip("\n").split("\n")
+        return [re.split(" {2,}", it.strip()) for it in lines], below.splitlines()
+
+    def test_few_columns_and_nearly_all(self):
+        trace = self.file("a.trace", one("alloc 1 524281", "free 1", "alloc 2 100"))
+        [names, seconds, row], _ = self.table(trace, *KEPT_APART)
+        self.assertEqual(names, "list ran mb percent mb percent carriers created failed".split())
+        self.assertEqual(seconds, "most most end end end".split())
+        self.assertEqual(row, "+MHacul 0|aoffcbf 0|0.5|100|0.2|100|1|2|0".split("|"))
+        wide, _ = self.table(trace, *KEPT_APART, "--wide")
+        self.assertIn("moved", wide[0])
+        self.assertNotIn("percent", wide[0])
+
+    def test_the_most_is_left_out_where_it_is_not_known(self):
+        trace = self.file("a.trace", two(["alloc 1 100"], ["alloc 2 100"], "1*9 2*9"))
+        [names, seconds, _], _ = self.table(trace, "--all", "+S 2")
+        self.assertEqual((names[2:5], seconds), (["mb", "percent", "carriers"], ["end", "end", "end"]))
+
+    def test_the_first_list_stands_first_and_percent_are_of_it(self):
+        """A block that is left, in a multiblock carrier of 2000, 256 or 512 kB, or in one of its own, of 129 pages."""
+        trace = self.file("a.trace", one("alloc 1 524280", "alloc 2 100"))
+        lines, below = self.table(trace, "--try", "+MHsmbcs 2000", "--try", "+MHsmbcs 256", "--try", "+MHsbct 511",
+                                  "--columns", "list,mb_end,percent_end", "--all", "+MHacul 0 +MHlmbcs 1 +MHsmbcs 1000")
+        rows = self.rows(trace, "--try", "+MHsmbcs 2000", "--try", "+MHsmbcs 256", "--try", "+MHsbct 511",
+                         "--all", "+MHacul 0 +MHlmbcs 1 +MHsmbcs 1000")
+        base = rows[0]["mb_end"]
+        wanted = [[it["list"], f"{it['mb_end']:.1f}", str(round(100 * it["mb_end"] / base))] for it in rows]
+        self.assertEqual(lines[2], wanted[0])
+        self.assertEqual(lines[3:], sorted(wanted[1:], key=lambda it: float(it[1])))
+        self.assertEqual([it["percent_end"] for it in rows], [int(it[2]) for it in wanted])
+        self.assertEqual((rows[0]["list"], below), ("(base)", []))
+
+    def test_a_percent_of_what_is_not_known_is_not_known(self):
+        table = [{"list": it[0], "status": 0, "mb_most": it[1], "mb_end": it[2]} for it in (
+            ("a", "<=9", 0.0), ("b", 8, 1.0))]
+        for it in self.rows("--from", self.file("a.json", json.dumps(table))):
+            self.assertRow(it, percent_most=None, percent_end=None)
+
+    # Alternatives
+
+    def test_alternatives_are_lists_of_their_own(self):
+        self.file("node.flags", "+MHacul\n0\n")
+        words = [self.file("a.trace", one("alloc 1 2000")), "--flags", "node.flags", "--try", "+MHsbct 1",
+                 "--try", "+MHsbct 1 +MHas bf"]
+        rows = self.rows(*words)
+        self.assertEqual([(it["list"], it["flags"], it["units_end"]) for it in rows], [
+            ("node.flags", "+MHacul 0", 32768), ("node.flags +MHsbct 1", "+MHacul 0 +MHsbct 1", 512),
+            ("node.flags +MHsbct 1 +MHas bf", "+MHacul 0 +MHsbct 1 +MHas bf", 512)])
+        # As text what all share stands below, and the first one is named.
+        lines, below = self.table(*words, "--columns", "list")
+        self.assertEqual([*map(" ".join, lines[1:])], ["node.flags", "+MHsbct 1", "+MHsbct 1 +MHas bf"])
+        self.assertEqual(below, ["All lists have node.flags."])
+
+    def test_alternatives_beside_a_grid_and_of_each_file(self):
+        for name in "ab":
+            self.file(f"{name}.flags", "")
+        rows = self.rows(self.file("a.trace", one("idle")), "--flags", "a.flags", "b.flags", "--try", "+MHsbct 1",
+                         "--each", "+MHas bf aoff")
+        ends = ["", " +MHsbct 1", " +MHas bf", " +MHas aoff"]
+        self.assertEqual([it["list"] for it in rows], [f"{name}.flags{it}" for name in "ab" for it in ends])
+        self.assertEqual(self.rows("a.trace", "--try", "+MHsbct 1")[0]["list"], "(no flags)")
+
+    def test_a_refused_alternative_names_itself(self):
+        said = self.compare(self.file("a.trace", one()), "--try", "+MHsbct 1 +MHas ff")[2]
+        self.assertEqual(said, f"compare: --try '+MHsbct 1 +MHas ff': ff: bad value\n{NO_STRATEGY}")
+
+    # How many carriers were created
+
+    def test_created(self):
+        """Two of 129 pages with the same number, and one that stays; a main carrier is one, too."""
+        operations = ["alloc 1 524281", "free 1", "alloc 2 524281", "free 2", "alloc 3 100", "alloc 4 100", "free 3"]
+        self.assertRow(self.row(one(*operations), *KEPT_APART), created=3, carriers_end=1)
+        main = self.row(one("alloc 1 524281", "free 1", "alloc 2 100"), *KEPT_APART, "--each", "+MHmmbcs 500")
+        self.assertRow(main, created=2, carriers_end=1)
+        operations = ["alloc 1 2000", "realloc 1 2 90000", "realloc 2 3 90008"]
+        moved = self.row(one(*operations), *KEPT_APART, "--each", "+MHsbct 1")
+        self.assertRow(moved, carriers_end=1, created=moved["moved"] + 1)
+
+    def test_created_of_recorded_operations(self):
+        """The second scheduler's free waits until the first begins an operation: before its `alloc`, so that this
+        creates a carrier, or not before the `take`, in which the carrier goes to nobody."""
+        begin = ["type H", "1 alloc 1 2000", "1 give 1 2", "2 take 1 1", "2 free 1"]
+        for lines, count in ((["1 alloc 2 2000"], 2), (["2 alloc 2 2000", "1 idle", "1 alloc 3 2000"], 3), ([], 1)):
+            text = "\n".join([*begin, *lines, "end", ""])
+            [row] = self.recorded(text, "--all", "+S 2", *KEPT_APART, "--each", "+MHsbct 1")
+            self.assertRow(row, created=count, carriers_end=len(lines) and count - 1)
+
+    def test_created_counts_each_row_of_the_steps(self):
+        """Where carriers migrate each one is created by a step."""
+        for flags in ("+MHsbct 16 +MHacul 90", "+MHsbct 64", "+MHacul 60 +MHas ageffcbf"):
+            ran = subprocess.run([program(), "steps", *flags.split()], stdin=open(f"{EXAMPLES}/busy-days.trace", "rb"),
+                                 capture_output=True, text=True, check=True)
+            count = sum(it.split()[3:4] == ["create"] for it in ran.stdout.splitlines())
+            [row] = self.rows(f"{EXAMPLES}/busy-days.trace", "--all", flags)
+            self.assertRow(row, created=count)
+
+    def test_created_is_a_bound_where_the_order_is_not_known(self):
+        row = self.row(two(["alloc 1 100"], ["alloc 2 100"], "1*9 2*9"), "--each", "+S 2", *KEPT_APART)
+        self.assertRow(row, created=">=2")
+        self.assertIsNone(self.row("type H\ngenerate 7 100\nend\n", *KEPT_APART)["created"])
+
     # Memory, blocks and gaps
 
     def test_megabytes(self):
@@ -402,14 +511,15 @@ class Compare(unittest.TestCase):
         # 12502 units of 32768.
         self.assertRow(row, utilisation_each="38.1/-")
 
-    def test_a_text_is_sorted_by_memory_and_what_failed_comes_last(self):
+    def test_after_the_first_list_a_text_is_sorted_by_memory_and_what_failed_comes_last(self):
         trace = self.file("a.trace", one("alloc 1 524280", "alloc 2 100"))
-        text = self.compare(trace, "--each", "+MHsmbcs 2000 256 512", "--all", "+MHacul 0", "--columns", "list,mb_most")[1]
-        self.assertEqual([it.split()[1] for it in text.splitlines()[2:5]], ["256", "512", "2000"])
-        grid = ["--each", "+MMscs 1 2", "--columns", "list,failed"]
+        words = ["--each", "+MHsmbcs 1000 2000 256 512", "--all", "+MHacul 0", "--columns", "list,mb_most"]
+        text = self.compare(trace, *words)[1]
+        self.assertEqual([it.split()[1] for it in text.splitlines()[2:6]], ["1000", "256", "512", "2000"])
+        grid = ["--each", "+MMscs 4 1 2", "--columns", "list,failed"]
         text = self.compare(self.file("b.trace", one("alloc 1 524280", "alloc 2 524280")), *grid, "--", "+MHacul", "0")[1]
-        self.assertEqual([it.split() for it in text.splitlines()[1:3]], [["+MMscs", "2", "0"], ["+MMscs", "1", "1"]])
-        self.assertIn("In 1 of 2 lines allocations failed", text)
+        self.assertEqual([it.split()[1:] for it in text.splitlines()[1:4]], [["4", "0"], ["2", "0"], ["1", "1"]])
+        self.assertIn("In 1 of 3 lines allocations failed", text)
         self.assertIn("Failed for want of pages", text)
 
     def test_what_all_lists_share_stands_below(self):
@@ -507,6 +617,124 @@ class Compare(unittest.TestCase):
         if probe.returncode:
             self.skipTest("this program has no recorded operations")
         return self.rows(self.file("a.input", text), *words)
+
+    PEAKS = ["alloc 1 300000", "alloc 2 300000", "# mark peak-1", "free 1", "# mark valley-1", "alloc 3 400000",
+             "alloc 4 300000", "# mark peak-2", "free 2", "free 3", "# mark valley-2", "free 4"]
+
+    def test_peaks_and_valleys_are_taken_without_a_word(self):
+        """A line for each list all the same. Carriers of 74, 98 pages: 2 and 1 of 74, then 98 and 2 of 74, then one."""
+        trace, words = self.file("a.trace", one(*self.PEAKS)), [*KEPT_APART, "--each", "+MHsbct 1"]
+        [row] = self.rows(trace, *words)
+        self.assertRow(row, mark=None, mb_peak=1.0, mb_valley=0.3, mb_end=0.0, created=4, percent_peak=100)
+        [names, seconds, cells], _ = self.table(trace, *words)
+        self.assertEqual(names[2:6], "mb percent mb percent".split())
+        self.assertEqual(seconds[:4], "peak peak valley valley".split())
+        self.assertEqual(cells[2:6], "1.0 100 0.3 100".split())
+        rows = self.rows(trace, *words, "--marks")
+        self.assertEqual([(it["mark"], it["mb_end"], it["mb_peak"]) for it in rows], [
+            ("peak-1", 0.6, None), ("valley-1", 0.3, None), ("peak-2", 1.0, None), ("valley-2", 0.3, None),
+            ("end", 0.0, None)])
+        # Results with these lines make the same table.
+        self.file("a.json", json.dumps(rows))
+        self.assertRow(self.rows("--from", "a.json")[0], mark=None, mb_peak=1.0, mb_valley=0.3)
+        # Other marks are taken where --marks asks for them.
+        [row] = self.rows(self.file("b.trace", one("alloc 1 100", "# mark noon", "free 1")), *words)
+        self.assertRow(row, mark=None, mb_peak=None, mb_valley=None)
+
+    def test_commands_have_the_marks_and_the_seconds(self):
+        trace = self.file("a.trace", one(*self.PEAKS))
+        lines = [self.compare(trace, "--print-commands", *it)[1] for it in ([], ["--seconds", "9"])]
+        self.assertIn("--marks", lines[0])
+        self.assertEqual(["--seconds 9 " in it for it in lines], [False, True])
+        self.assertNotIn("--marks", self.compare(self.file("b.trace", one("idle")), "--print-commands")[1])
+
+    # Several allocators of one node
+
+    def both(self, rules="rules powers counter\n"):
+        """Recorded inputs of B and E with two peaks; that of B is the higher one at the second, of E at the first."""
+        probe = subprocess.run([program(), "recorded"], input="type H\nend\n", capture_output=True, text=True, check=False)
+        if probe.returncode:
+            self.skipTest("this program has no recorded operations")
+        made = []
+        for letter, first, second in (("B", 300000, 700000), ("E", 900000, 100000)):
+            lines = [f"alloc 1 {first}", "alloc 2 300000", "# mark peak-1", "free 1", "# mark valley-1",
+                     f"alloc 3 {second}", "# mark peak-2", "free 3"]
+            text = "\n".join(it if it.startswith("#") else f"1 {it}" for it in lines)
+            made.append(self.file(f"{letter.lower()}.input", f"type {letter}\n{rules}{text}\nend\n"))
+        return made
+
+    TIGHT = ["--all", "+Muacul 0", "--try", "+MBsbct 64", "--try", "+MEsbct 64"]
+
+    def test_sums_of_several_allocators(self):
+        """Each sum is that of the lines of the list, at a mark of the same name; what was at most need not have been at
+        once."""
+        files = self.both()
+        rows = self.rows(*files, *self.TIGHT, "--sum", "--marks")
+        self.assertEqual(len(rows), 3 * 3 * 4)
+        for it in rows:
+            if it["type"] == "B+E":
+                of_both = [row for row in rows if (row["list"], row["mark"]) == (it["list"], it["mark"])]
+                self.assertEqual([row["type"] for row in of_both], ["B+E", "B", "E"])
+                parts = of_both[1:]
+                for name in ("units_end", "carriers_end", "created", "failed", "blocks_end"):
+                    self.assertEqual(it[name], sum(row[name] for row in parts), name)
+                self.assertRow(it, trace="(sum)", mb_end=round(it["units_end"] / 2**17, 1), utilisation_end=None)
+                self.assertEqual(it["carriers_most"], f"<={sum(row['carriers_most'] for row in parts)}")
+
+    def test_the_peak_of_a_sum_is_at_one_moment(self):
+        files = self.both()
+        marked = [it for it in self.rows(*files, *self.TIGHT, "--sum", "--marks") if it["type"] == "B+E"]
+        for row in (it for it in self.rows(*files, *self.TIGHT, "--sum") if it["type"] == "B+E"):
+            mine = {it["mark"]: it["mb_end"] for it in marked if it["list"] == row["list"]}
+            self.assertRow(row, mb_peak=max(mine["peak-1"], mine["peak-2"]), mb_valley=mine["valley-1"])
+        # Of lines without marks it is a bound: each may be of another mark.
+        single = self.rows(*files, *self.TIGHT)
+        [row] = self.rows("--from", self.file("a.json", json.dumps(single[:2])), "--sum")[:1]
+        self.assertEqual(row["mb_peak"], f"<={round(single[0]['mb_peak'] + single[1]['mb_peak'], 1)}")
+
+    def test_sums_of_bounds(self):
+        """Of one kind they are one of that kind; without units the megabytes are added."""
+        first = {"list": "a", "trace": "b", "type": "B", "status": 0, "created": ">=900000", "failed": 1,
+                 "carriers_most": "<=4", "mb_most": 1.5, "mb_end": 1.0, "abandoned": "<=1", "fetched": None}
+        second = {**first, "trace": "e", "type": "E", "created": 100001, "mb_most": 2.0, "abandoned": ">=1"}
+        row = self.rows("--from", self.file("a.json", json.dumps([first, second])), "--sum")[0]
+        self.assertRow(row, trace="(sum)", type="B+E", created=">=1000001", failed=2, carriers_most="<=8")
+        self.assertRow(row, mb_most="<=3.5", mb_end=2.0, abandoned=None, fetched=None)
+        # Where one alone has any, it is what all have at most.
+        second |= {"carriers_most": 0, "mb_most": 0.0}
+        row = self.rows("--from", self.file("a.json", json.dumps([{**first, "carriers_most": 4}, second])), "--sum")[0]
+        self.assertRow(row, carriers_most=4, mb_most=1.5)
+
+    def test_where_the_text_has_sums_without_a_word(self):
+        files = self.both()
+        types = self.file("types.trace", several("B E", ["B alloc 1 100", "E alloc 1 100"]))
+        plain = [self.file(f"{it}.trace", one("idle").replace("type H", f"type {it}")) for it in "BE"]
+        other = shutil.copy(f"{self.room}/{files[0]}", f"{self.room}/other.input")
+        for names, is_summed in ((files, True), ([types], True), (files[:1], False), (plain, False),
+                                 ([*files, other], False)):
+            text = self.compare(*names, "--all", "+Muacul 0")[1]
+            self.assertEqual("B+E" in text, is_summed, names)
+        self.assertEqual(self.rows(types, "--sum")[0]["type"], "B+E")
+        self.assertEqual([it["type"] for it in self.rows(types)], ["B", "E"])
+
+    def test_flags_of_the_other_allocator_are_no_mistake(self):
+        below = self.table(*self.both(), *self.TIGHT)[1]
+        self.assertEqual([it for it in below if "change nothing" in it], [])
+        below = self.table(*self.both(), *self.TIGHT, "--all", "+MHsbct 1")[1]
+        self.assertEqual(len([it for it in below if it.startswith("+MH flags change nothing here")]), 1)
+
+    def test_a_sum_that_lacks_a_part_is_not_there(self):
+        files = self.both()
+        others = [self.file("a.trace", one("idle")), self.file("b.trace", one("frob"))]
+        for names in ([files[0], "none", files[1]], others):
+            rows = self.rows(*names, "--all", "+Muacul 0", "--sum", status=1)
+            self.assertEqual([*{it["trace"]: it for it in rows}], names)
+
+    def test_a_node_with_a_super_carrier(self):
+        for rules, is_told in (("rules powers counter\n", True), ("rules counter powers falling\n", False),
+                               ("rules powers\n", False), ("", False)):
+            text = self.compare(*self.both(rules)[:1], "--all", "+Muacul 0")[1]
+            self.assertEqual("super carrier" in text, is_told, rules)
 
     # Several allocator types
 
@@ -694,50 +922,198 @@ class Compare(unittest.TestCase):
             ran.stdout.close()
             self.assertEqual((ran.stderr.read(), ran.wait()), (b"", 1))
 
-    def test_an_interrupt_leaves_what_had_ended(self):
-        self.file("a.trace", one())
-        lines = ["#!/bin/sh", '[ "${2:-}" = bf ] && touch begun && sleep 600', f'exec {shlex.quote(program())} "$@"', ""]
-        slow = self.file("slow", "\n".join(lines))
-        os.chmod(f"{self.room}/slow", 0o755)
-        words = ["a.trace", "--program", slow, "--jobs", "1", "--each", "+MHas gf bf af", "--columns", "list,status"]
-        # A shell starts what runs in the background with this signal ignored.
-        how = {"preexec_fn": lambda: signal.signal(signal.SIGINT, signal.SIG_DFL), "start_new_session": True}
-        streams = {"stdout": subprocess.PIPE, "stderr": subprocess.PIPE, "text": True}
-        ran = subprocess.Popen(self.words(*words), cwd=self.room, **streams, **how)
-        while not os.path.exists(f"{self.room}/begun"):
-            self.assertIsNone(ran.poll())
-            time.sleep(0.05)
-        os.killpg(ran.pid, signal.SIGINT)
-        text, said = ran.communicate()
-        self.assertEqual(ran.returncode, 130)
-        self.assertTrue(said.startswith("compare: interrupted\n"), said)
-        self.assertIn("+MHas gf       0\n", text)
-        self.assertNotIn("Traceback", said)
+    def test_a_closed_pipe_ends_runs_whose_lines_nobody_reads(self):
+        read, write = os.pipe()
+        ran = self.begin("--each", "+MHas bf aoff", "--jobs", "1", "--as", "csv", "--seconds", "2", stdout=write)
+        for it in read, write:
+            os.close(it)
+        said = ran.communicate(timeout=30)[1]
+        self.assertEqual((said, ran.returncode), ("compare: a.trace: +MHas bf: it was ended after 2 seconds\n", 1))
+        self.assertEqual([it for it in os.listdir(self.room) if it.startswith("compare-")], [])
 
-    def test_a_signal_to_the_tool_alone_ends_its_runs_at_once(self):
-        """Also what a run has started: it does not come to its end."""
+    # Signals
+
+    ENDS = "compare: interrupted: {} of {} runs had ended\n".format
+
+    def slow(self):
+        """A program that never ends under `bf`, by what it has started, and makes the file `begun` first."""
         lines = ["#!/bin/sh", '[ "${2:-}" = bf ] && touch begun && { sh -c "sleep 600; touch ended"; exit 0; }',
                  f'exec {shlex.quote(program())} "$@"', ""]
         self.file("slow", "\n".join(lines))
         os.chmod(f"{self.room}/slow", 0o755)
-        words = [self.file("a.trace", one()), "--program", "./slow", "--each", "+MHas gf bf", "--columns", "list,status"]
-        for number in signal.SIGINT, signal.SIGTERM:
-            how = {"preexec_fn": lambda: signal.signal(signal.SIGINT, signal.SIG_DFL), "start_new_session": True}
-            streams = {"stdout": subprocess.PIPE, "stderr": subprocess.PIPE, "text": True}
-            ran = subprocess.Popen(self.words(*words), cwd=self.room, **streams, **how)
-            while not os.path.exists(f"{self.room}/begun"):
-                self.assertIsNone(ran.poll())
-                time.sleep(0.05)
-            ran.send_signal(number)
-            text, said = ran.communicate()
-            self.assertFalse(os.path.exists(f"{self.room}/ended"))
-            self.assertEqual((ran.returncode, said), (130, "compare: interrupted\n"), text)
+        return [self.file("a.trace", one()), "--program", "./slow"]
+
+    def begin(self, *words, **streams):
+        """The tool in a group of its own, once `bf` has begun."""
+        if os.path.exists(f"{self.room}/begun"):
             os.unlink(f"{self.room}/begun")
+        # A shell starts what runs in the background with one of these ignored.
+        how = {"preexec_fn": lambda: signal.signal(signal.SIGINT, signal.SIG_DFL), "start_new_session": True}
+        streams = {"stdout": subprocess.PIPE, "stderr": subprocess.PIPE, "text": True, **streams}
+        ran = subprocess.Popen(self.words(*self.slow(), *words), cwd=self.room, **streams, **how)
+        self.addCleanup(ran.wait)
+        self.addCleanup(ran.kill)
+        while not os.path.exists(f"{self.room}/begun"):
+            self.assertIsNone(ran.poll())
+            time.sleep(0.05)
+        return ran
+
+    def ended(self, ran):
+        """What it wrote and said, within some seconds, and nothing that it had started goes on."""
+        text, said = ran.communicate(timeout=20)
+        self.assertEqual((ran.returncode, self.runs_here()), (130, []), said)
+        return text, said
+
+    def runs_here(self):
+        """The processes that work in this test's folder."""
+        found = []
+        for it in filter(str.isdigit, os.listdir("/proc")):
+            try:
+                found += [it] if os.readlink(f"/proc/{it}/cwd") == os.path.realpath(self.room) else []
+            except OSError:
+                continue
+        return found
+
+    def test_signals_leave_what_had_ended(self):
+        """Each of them, to the tool alone or to its group, once or more often."""
+        columns = ["--columns", "list,status"]
+        for number in signal.SIGINT, signal.SIGTERM, signal.SIGHUP:
+            for send, times in ((os.kill, 1), (os.killpg, 1), (os.killpg, 2), (os.killpg, 3)):
+                with self.subTest(f"{number!r} {send.__name__} {times}"):
+                    ran = self.begin("--jobs", "1", "--each", "+MHas gf bf af", *columns)
+                    for _ in range(times):
+                        send(ran.pid, number)
+                        time.sleep(0.02)
+                    text, said = self.ended(ran)
+                    self.assertEqual(said, self.ENDS(1, 3))
+                    note = "+MHas gf with acul 60 runs as aoffcbf; a node would set acul 0: add +MHacul 0."
+                    below = f"{note}\nInterrupted: 1 of 3 runs had ended.\n"
+                    self.assertEqual(text, f"list      status\n+MHas gf       0\n\n{below}")
+
+    def test_timeout(self):
+        """It sends its signal to the tool, and to the group as well. The status is its own."""
+        words = self.words(*self.slow(), "--jobs", "1", "--each", "+MHas aoff bf", "--columns", "list")
+        for seconds in 4, 16, 64:
+            began = time.monotonic()
+            ran = subprocess.run(["timeout", "-k", "60", str(seconds), *words], cwd=self.room, capture_output=True,
+                                 text=True, check=False)
+            self.assertLess(time.monotonic() - began, seconds + 20)
+            self.assertEqual((ran.returncode, self.runs_here()), (124, []))
+            # On a busy machine the second run may not have begun by then.
+            if os.path.exists(f"{self.room}/begun"):
+                break
+        self.assertEqual(ran.stderr, self.ENDS(1, 2))
+        self.assertTrue(ran.stdout.startswith("list\n+MHas aoff\n"), ran.stdout)
+
+    def test_a_signal_while_several_runs_are_under_way(self):
+        grid = ["--each", "+MHas bf", "--each", "+MHsbct 1 2 3"]
+        ran = self.begin("--jobs", "3", *grid, "--as", "json", "--columns", "list")
+        os.killpg(ran.pid, signal.SIGTERM)
+        text, said = self.ended(ran)
+        self.assertEqual((json.loads(text), said), ([], self.ENDS(0, 3)))
+
+    def test_runs_end_if_the_tool_is_killed(self):
+        ran = self.begin("--each", "+MHas bf")
+        ran.kill()
+        ran.wait()
+        for _ in range(100):
+            if not self.runs_here():
+                break
+            time.sleep(0.1)
+        self.assertEqual(self.runs_here(), [])
+
+    def test_the_process_of_a_run_that_is_killed(self):
+        """Its line says so, and the others have theirs."""
+        ran = self.begin("--each", "+MHas bf gf", "--as", "json", "--columns", "list,status,said")
+        for it in filter(str.isdigit, os.listdir("/proc")):
+            try:
+                with open(f"/proc/{it}/stat", encoding="utf-8") as file:
+                    is_its_child = file.read().rpartition(")")[2].split()[1] == str(ran.pid)
+            except OSError:
+                continue
+            if is_its_child:
+                os.kill(int(it), signal.SIGKILL)
+        text, said = ran.communicate(timeout=20)
+        killed = "a process of this tool was killed"
+        self.assertEqual((ran.returncode, said), (1, f"compare: {killed}\n"))
+        self.assertEqual(json.loads(text), [{"list": "+MHas bf", "status": None, "said": killed},
+                                            {"list": "+MHas gf", "status": 0, "said": None}])
+        # The run itself has nobody who ends it.
+        for it in self.runs_here():
+            os.kill(int(it), signal.SIGKILL)
+
+    def test_csv_has_a_line_as_soon_as_a_run_has_ended(self):
+        """In the order of the lists: what ends later and comes first is waited for. A signal has the rest written."""
+        read, write = os.pipe()
+        self.addCleanup(os.close, read)
+        words = ["--each", "+MHas aoff bf gf", "--columns", "list,status,percent_end", "--as", "csv"]
+        ran = self.begin("--jobs", "2", *words, stdout=write)
+        os.close(write)
+        self.assertEqual(os.read(read, 1000), b"list,status,percent_end\n+MHas aoff,0,\n")
+        # Both are there by then.
+        time.sleep(1)
+        ran.send_signal(signal.SIGTERM)
+        self.assertEqual(self.ended(ran)[1], self.ENDS(2, 3))
+        self.assertEqual(os.read(read, 1000), b"+MHas gf,0,\n")
+
+    def test_a_terminal_shows_each_run_as_it_ends(self):
+        master, terminal = os.openpty()
+        self.addCleanup(os.close, master)
+        words = [self.file("a.trace", one("alloc 1 100")), "--jobs", "1", "--each", "+MHsbct 1 2", *KEPT_APART]
+        ran = subprocess.Popen(self.words(*words), cwd=self.room, stdout=subprocess.PIPE, stderr=terminal, text=True)
+        text = ran.communicate(timeout=60)[0]
+        os.close(terminal)
+        shown = os.read(master, 10000).decode().replace("\r\033[K", "\n").replace("\r\n", "\n").split("\n")
+        lines = [it for number in (1, 2) for it in (
+            f"+MHsbct {number} +MHacul 0: most 0.2 MB, end 0.2 MB, 1 carriers", f"compare: {number} of 2 runs")]
+        self.assertEqual([it for it in shown if it], ["compare: 0 of 2 runs", *lines])
+        self.assertNotIn("runs", text)
+
+    def saved(self):
+        [name] = [it for it in os.listdir(self.room) if it.startswith("compare-")]
+        return name
+
+    def test_a_terminal_that_is_gone_loses_no_rows(self):
+        master, terminal = os.openpty()
+        ran = self.begin("--each", "+MHas aoff bf", stdout=terminal, stderr=terminal)
+        os.close(terminal)
+        time.sleep(1)
+        os.close(master)
+        os.killpg(ran.pid, signal.SIGHUP)
+        self.assertEqual(ran.wait(20), 130)
+        [row] = self.rows("--from", self.saved())
+        self.assertRow(row, list="+MHas aoff", status=0)
+
+    def test_a_reader_that_the_same_signal_ended_loses_no_rows(self):
+        for form, grid in (("text", "+MHas aoff bf"), ("csv", "+MHas bf aoff")):
+            read, write = os.pipe()
+            ran = self.begin("--each", grid, "--jobs", "2", "--as", form, stdout=write)
+            for it in read, write:
+                os.close(it)
+            time.sleep(1)
+            os.killpg(ran.pid, signal.SIGINT)
+            said, name = self.ended(ran)[1], self.saved()
+            self.assertEqual(said, f"{self.ENDS(1, 2)}compare: all rows are in ./{name}: --from reads it\n")
+            os.unlink(f"{self.room}/{name}")
+
+    def test_a_full_disk_loses_no_rows(self):
+        words = [self.file("a.trace", one("alloc 1 100")), "--each", "+MHsbct 1 2"]
+        for form in ("text", "csv"):
+            with open("/dev/full", "wb") as full:
+                ran = subprocess.run(self.words(*words, "--as", form), cwd=self.room, stdout=full,
+                                     stderr=subprocess.PIPE, text=True, check=False)
+            name = self.saved()
+            self.assertEqual((ran.returncode, ran.stderr), (1, f"compare: all rows are in ./{name}: --from reads it\n"
+                             "compare: standard output: No space left on device\n"))
+            self.assertEqual([it["carriers_end"] for it in self.rows("--from", name)], [1, 1])
+            os.unlink(f"{self.room}/{name}")
 
     def test_words_that_are_no_command(self):
         trace = self.file("a.trace", one())
-        options = ["--by size", "--each +MHas", "--jobs 0", "--as xml", "--from a.json", "--columns size", "--other"]
-        for words in ([], ["--flags", "a.flags", trace], *([trace, *it.split()] for it in options)):
+        options = ["--by size", "--each +MHas", "--try +MHas", "--try as,bf",
+                   "--jobs 0", "--as xml", "--from a.json", "--columns size", "--other"]
+        others = [["--flags", "a.flags", trace], ["--from", "a.json", "--try", "+MHas bf"]]
+        for words in ([], *others, *([trace, *it.split()] for it in options)):
             status, text, said = self.compare(*words)
             self.assertEqual((status, text), (2, ""), words)
             self.assertIn("compare: error: ", said)
@@ -809,7 +1185,7 @@ class Compare(unittest.TestCase):
     def test_the_examples_of_help(self):
         """Its first table has lists that differ in what ran and in its figures; its commands are lines of shell."""
         lines = [it.strip() for it in self.compare("--help")[1].splitlines() if it.startswith("  tools/compare ")]
-        first, commands, _ = lines
+        _, first, commands, _ = lines
         words = shlex.split(first)[1:]
         cut = words.index("--")
         status, text, said = self.compare(*words[:cut], "--as", "json", *words[cut:], folder=TOP)
