@@ -247,8 +247,10 @@ class Heads(Case):
             self.assertEqual((data["flags"], data["held"]), (flags, held))
 
     def test_the_page_shows_them(self):
-        self.draw("--trace", self.trace("alloc 1 100"), "--output", self.path("a.html"))
-        self.assertIn('at("about").textContent = [D.flags || "no flags", `held: ${D.held}`,', self.read("a.html"))
+        """Without its script, and with the words of the list."""
+        self.draw("--trace", self.trace("alloc 1 100"), "--output", self.path("a.html"), "--", "+MHsbct", "64", "+S", "1")
+        held = f"held: as aoffcbf, acul 60, {self.SIZES.replace('sbct 512', 'sbct 64')} · 1 scheduler · super carrier 64 MB"
+        self.assertIn(f'<p>{held}</p><p class="line">+MHsbct 64 +S 1</p>', self.read("a.html"))
 
     def test_each_type_has_its_own(self):
         lines = "types H T", "scheduler 1", "H alloc 1 100", "T alloc 1 100", "schedule", "end", ""
@@ -940,7 +942,7 @@ class Browser(Case):
             wanted = count_by_text(text, moment)
             self.assertEqual((shown["moment"], shown["blocks"], shown["drawn"]), (moment, wanted, wanted))
         picture = self.path("a.png")
-        self.browse(self.path("a.html"), "#at=60", f"--screenshot={picture}")
+        self.browse(self.path("a.html"), "#at=60", f"--screenshot={picture}", "--window-size=1200,1600")
         rows = pixels(picture)
         self.assertGreater(sum(row.count(BLUE) for row in rows), 3000)
 
@@ -975,8 +977,8 @@ class Browser(Case):
         """Block 2 of 14 units lies at offset 22, so its middle is at 29 of the 512 units of its carrier."""
         self.draw("--trace", self.trace(*FEW), "--output", self.path("a.html"), "--", *FEW_FLAGS)
         script = """(() => {
-            const box = at("rows").getBoundingClientRect(), x = box.left + LABEL + 29 * view.rows.scale;
-            const y = box.top + view.rows.rows[1].y + 10;
+            const box = at("rows").getBoundingClientRect(), { left, scale, rows } = panes[0].rows;
+            const x = box.left + left + 29 * scale, y = box.top + rows[1].y + 10;
             at("rows").dispatchEvent(new MouseEvent("mousemove", { clientX: x, clientY: y }));
             const pointed = tip.textContent;
             const moments = ["Home", "ArrowRight", "ArrowRight", "ArrowLeft", "End", "ArrowLeft"].map(key => {
@@ -985,7 +987,7 @@ class Browser(Case):
             });
             return [pointed, ...moments].join("; ");
         })()"""
-        pointed = "block 2, since entry 2\ncarrier 1, offset 22, 14 units (112 bytes)\n"
+        pointed = "block 2, since entry 2\ncarrier 1, offset 22, 112 bytes (14 units)\n"
         pointed += "address 0xb0 in the super carrier"
         self.assertEqual(self.said("a.html", "#at=2", script), f"{pointed}; 0:0; 1:1; 2:2; 1:1; 7:1; 6:2")
 
@@ -1010,10 +1012,10 @@ class Browser(Case):
         self.draw("--trace", self.sections(EACH_HAS_ONE, "schedule"), "--output", self.path("a.html"), "--",
                   *ONE_PAGE_EACH)
         script = """[1, 4, 5, 37, 64].map(instance => {
-            const box = at("regions").getBoundingClientRect(), { x, y } = stripOf(instance);
-            const middle = x + view.regions.label + 200 * view.regions.scale;
+            const box = at("regions").getBoundingClientRect(), { x, y } = panes[0].stripOf(instance);
+            const middle = x + panes[0].regions.label + 200 * panes[0].regions.scale;
             const event = { clientX: box.left + middle, clientY: box.top + y + 12 };
-            return /carrier \\d+/.exec(overRegions(event))[0];
+            return /carrier \\d+/.exec(panes[0].overRegions(event))[0];
         }).join(", ") + "; " + at("picture").dataset.drawn + "; " + at("bare").textContent"""
         wanted = "carrier 1, carrier 3073, carrier 4097, carrier 36865, carrier 64513; 64; "
         self.assertEqual(self.said("a.html", "", script), wanted)
