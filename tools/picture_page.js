@@ -100,7 +100,8 @@ function slide(units) {
 function drawZoomed() {
   for (const pane of panes) pane.drawRows();
   const [from, to] = [view.from, view.to].map(bytesWords), isPart = view.to - view.from < view.longest;
-  at("scale").textContent = `by address, ${isPart ? `${from} to ${to} of each` : "to one scale"}`;
+  const part = isPart ? `${from} to ${to} of each` : "to one scale";
+  at("scale").textContent = `by address, ${part}; the bar before a carrier has its owner's colour`;
 }
 
 // Controls
@@ -206,11 +207,11 @@ function keptSwatch() {
   it.append(mark, "block whose release was stopped");
   return it;
 }
+const instances = () => Array.from({ length: Math.max(...runs.map(it => it.data.schedulers)) }, (_, it) => it + 1);
 function legend() {
-  const { data } = runs.reduce((found, it) => it.data.schedulers > found.data.schedulers ? it : found);
   const users = view.hasOneColour
     ? [swatch(ink.one, "block"), swatch(ink.pointed, "block, used by the instance that is pointed at or chosen")]
-    : data.colours.map((it, place) => swatch(it, `block, used by instance ${place + 1}`));
+    : instances().map(it => swatch(ink[`c${it}`], `block, used by instance ${it}`));
   at("legend").replaceChildren(
     ...users, swatch(`url(${ink.tileUrl})`, "queued block"), swatch(ink.head, "header"),
     swatch(ink.gap, "gap or tail", `1px solid ${ink.edge}`),
@@ -224,8 +225,7 @@ function legend() {
 function offerInstances() {
   at("choice").hidden = !view.hasOneColour;
   if (!view.hasOneColour) return;
-  const count = Math.max(...runs.map(it => it.data.schedulers));
-  at("instance").append(...Array.from({ length: count }, (_, it) => new Option(it + 1, it + 1)));
+  at("instance").append(...instances().map(it => new Option(it, it)));
   at("instance").addEventListener("change", event => { view.chosen = +event.target.value; draw(); });
 }
 function begin() {

@@ -6,7 +6,7 @@ import re
 
 from picture_curves import LETTERS, Figures, memory_plot, number, other_plots, peak_words, unknown_words
 from picture_run import plural
-from picture_svg import COLOURS, megabytes, rules_words
+from picture_svg import megabytes, rules_words
 from texts import NUMBERS_OF_AN_INSTANCE
 
 SCRIPTS = ("picture_page_run.js", "picture_page_pane.js", "picture_page.js")
@@ -39,7 +39,7 @@ def life_data(life):
 
 
 def page_data(figures, opens):
-    """What the page's script reads: see there."""
+    """What the page's script reads, see there, and what the page says of the run in its head and its notes."""
     run = figures.run
     lives = {it: at for at, it in enumerate(run.replay.lives)}
     blocks = run.replay.blocks
@@ -50,9 +50,7 @@ def page_data(figures, opens):
         "flags": " ".join(run.program.words),
         "held": run.settings.told(),
         "rules": rules_words(run.trace),
-        "letter": run.trace.letter,
         "schedulers": len(run.trace.sections),
-        "megabytes": run.settings.megabytes,
         "region": run.settings.region,
         "last": run.last,
         "opens": opens,
@@ -73,7 +71,6 @@ def page_data(figures, opens):
             "gone": [since(it.gone, it) for it in blocks],
         },
         "lives": [life_data(it) for it in run.replay.lives],
-        "colours": COLOURS[: len(run.trace.sections)],
         "numbers": NUMBERS_OF_AN_INSTANCE,
         "stops": [[it.moment, it.scheduler, words] for it, words in run.kept()],
         "kept": [at for at, it in enumerate(blocks) if it.is_kept],

@@ -3,7 +3,7 @@
 // Colours
 const style = name => getComputedStyle(document.documentElement).getPropertyValue(name).trim();
 const INKS = ["page", "text", "dim", "line", "free", "gap", "edge", "head", "queued", "queued-pale", "mark", "one",
-  "pointed"];
+  "pointed", "c1", "c2", "c3", "c4", "c5", "c6", "c7", "c8"];
 const ink = {};
 function readColours() {
   for (const it of INKS) ink[it] = style("--" + it);
@@ -155,7 +155,7 @@ class Pane {
   at(name) { return at(name + this.suffix); }
   get isNarrow() { return this.root.clientWidth < NARROW; }
   colourOf(instance) {
-    if (!view.hasOneColour) return this.run.data.colours[instance - 1];
+    if (!view.hasOneColour) return ink[`c${instance}`];
     return instance === (view.pointed || view.chosen) ? ink.pointed : ink.one;
   }
   draw() { this.drawRows(); this.drawRegions(); }
@@ -176,7 +176,7 @@ class Pane {
   layRegions() {
     const width = this.at("regions").clientWidth, most = Math.max(1, Math.min(MOST_COLUMNS, Math.floor(width / 280)));
     const columns = Math.max(1, Math.min(most, Math.ceil(this.shown.length / COLUMN))), wide = width / columns;
-    const label = columns > 1 ? 150 : this.isNarrow ? 118 : LABEL, long = Math.floor(wide - label - PAD);
+    const label = columns > 1 ? 164 : this.isNarrow ? 118 : LABEL, long = Math.floor(wide - label - PAD);
     const pages = view.onlyUsed ? view.usedPages : view.region;
     const strips = Math.ceil(this.shown.length / columns) * STRIP;
     this.regions = { width, columns, wide, label, long, pages, strips, scale: long / (pages * PAGE) };

@@ -5,6 +5,7 @@ Without PROGRAM the tool takes the one that ./run keeps. What is expected is wor
 docs/reference, or read from the program's text by this file's own reading. The tests with a browser are skipped where
 there is no chromium.
 """
+import html.parser
 import itertools
 import json
 import os
@@ -265,6 +266,243 @@ class Heads(Case):
         self.assertNotIn("held: ", self.read("a.svg"))
 
 
+# The units in carriers and in blocks at each moment of FEW, whose carrier has one page.
+FEW_UNITS = [0, 14, 28, 14, 26, 26, 40, 14]
+
+
+class Parts(html.parser.HTMLParser):
+    """The elements of a page with their attributes, and the words in each svg's title and desc."""
+
+    def __init__(self, page):
+        super().__init__()
+        self.found, self.words, self.inside = [], {}, []
+        self.feed(re.sub(r"<script.*?</script>", "", page, flags=re.S))
+
+    def handle_starttag(self, tag, attributes):
+        self.found.append((tag, dict(attributes)))
+        self.inside = [tag, dict(attributes).get("id")]
+
+    def handle_data(self, data):
+        if self.inside and self.inside[0] in ("title", "desc") and self.inside[1]:
+            self.words[self.inside[1]] = data
+        self.inside = []
+
+    def of(self, tag):
+        return [it for name, it in self.found if name == tag]
+
+
+def luminance(colour):
+    """As in the Web Content Accessibility Guidelines."""
+    parts = [int(colour[at : at + 2], 16) / 255 for at in (1, 3, 5)]
+    red, green, blue = (it / 12.92 if it <= 0.03928 else ((it + 0.055) / 1.055) ** 2.4 for it in parts)
+    return 0.2126 * red + 0.7152 * green + 0.0722 * blue
+
+
+def contrast(one, other):
+    low, high = sorted((luminance(one), luminance(other)))
+    return (high + 0.05) / (low + 0.05)
+
+
+class Page(Case):
+    """What a page has without its script: curves, marks, and what is said."""
+
+    def page(self, trace, *flags, more=()):
+        self.draw("--trace", trace, "--output", self.path("a.html"), *more, "--", *flags)
+        return self.read("a.html")
+
+    def few(self):
+        return self.page(self.trace(*FEW), *FEW_FLAGS)
+
+    def test_the_figures_of_each_moment(self):
+        figures = {name: summed(it) for name, it in data_in(self.few())["figures"].items()}
+        self.assertEqual(figures, {
+            "carriers": [0, *[PAGE_OF_UNITS] * 7], "held": FEW_UNITS, "queued": [0] * 8, "number": [0, *[1] * 7],
+            "unknown": [0] * 8})
+
+    def test_the_curves_and_the_area_between(self):
+        """The frame has 2000 by 1000, and the most, a page, takes 960. A value holds up to the next moment."""
+        page = self.few()
+        places = [at * 2000 // 7 for at in range(8)]
+        heights = [1000 - round(960 * it / PAGE_OF_UNITS) for it in FEW_UNITS]
+        blocks = "M0 1000" + "".join(f"H{places[at]}V{heights[at]}" for at in (1, 2, 3, 4, 6, 7)) + "H2000"
+        carriers = f"M0 1000H{places[1]}V40H2000"
+        self.assertIn(f'<path class="a" d="{carriers}"/>', page)
+        self.assertIn(f'<path class="within" d="{blocks}"/>', page)
+        back = "".join(f"H{places[at]}V{heights[at - 1]}" for at in (7, 6, 4, 3, 2, 1))
+        self.assertIn(f'<path class="spare" d="{carriers}V{heights[7]}{back}H0Z"/>', page)
+        self.assertIn("free in carriers: what other flags can save", page)
+
+    def test_the_axes_have_their_units(self):
+        """Two megabytes and 7 entries; megabytes come first."""
+        page = self.page(self.trace(*(f"alloc {it} 240000" for it in range(1, 8))), "+MHacul", "0", "+MHlmbcs", "2048",
+                         "+MHsmbcs", "2048")
+        main = page.partition('class="plot main"')[2].partition("</figure>")[0]
+        ticks = lambda kind: re.findall(f'<span class="tick {kind}"[^>]*>([^<]*)<', main)
+        self.assertEqual(ticks("y"), ["0 MB", "0.5 MB", "1 MB", "1.5 MB", "2 MB"])
+        self.assertEqual((ticks("x"), ticks("axis")), (["0", "2", "4", "6"], ["entries of the run"]))
+        self.assertLess(page.index('class="plot main"'), page.index('data-id="rows"'))
+        self.assertLess(page.index('class="plot main"'), page.index('class="plot number"'))
+
+    def test_it_opens_at_the_most_megabytes(self):
+        """Of the same most the first moment counts."""
+        trace = self.trace("alloc 1 2000", "alloc 2 600000", "free 2", "alloc 3 600000", "free 1")
+        page = self.page(trace, "+MHacul", "0")
+        data = data_in(page)
+        self.assertEqual((data["peak"], data["opens"]), (2, 2))
+        # A carrier of 64 pages, and one of 147: 211 pages are 0.8 MB. 252 and 75002 units are in blocks.
+        self.assertIn("The most is 0.8 MB of carriers, after entry 2, with 0.6 MB in blocks: 0.3 MB are free.", page)
+
+    def test_marks(self):
+        """Of one scheduler by its section, of several by the entries that are shown, of recorded operations by all."""
+        lines = ["# mark one", "alloc 1 100", "# mark two", "# no mark", "free 1", "# mark three"]
+        self.assertEqual(data_in(self.page(self.trace(*lines)))["marks"], [[0, "one"], [1, "two"], [2, "three"]])
+        trace = self.sections((["alloc 1 100", "idle"], ["# mark <here>", "idle", "# mark there"]), "schedule")
+        page = self.page(trace, "+S", "2")
+        self.assertEqual(data_in(page)["marks"], [[2, "<here>"], [3, "there"]])
+        self.assertIn('data-at="2" title="mark &lt;here&gt;, after entry 2"', page)
+        lines = "type H", "2 alloc 1 100", "# mark one", "1 idle", "1 idle", "# mark two", "end", ""
+        data = data_in(self.page(self.write("a.input", "\n".join(lines))))
+        self.assertEqual(data["marks"], [[1, "one"], [3, "two"]])
+
+    def test_marks_of_one_of_several_types(self):
+        lines = "types H B", "scheduler 1", "H idle", "B idle", "# mark here", "H idle", "schedule", "end", ""
+        self.draw("--trace", self.write("a.trace", "\n".join(lines)), "--output", self.path("a.html"))
+        for letter in "HB":
+            self.assertEqual(data_in(self.read(f"a.{letter}.html"))["marks"], [[1, "here"]])
+
+    def test_what_failed_is_said(self):
+        trace = self.trace("alloc 1 524280", "alloc 2 524280")
+        words = "--trace", trace, "--output", self.path("a.html"), "--", "+MMscs", "1"
+        self.assertEqual(self.run_tool(*words).returncode, 0)
+        self.assertIn('<p class="warning">FAILED allocations: 1, so less is drawn', self.read("a.html"))
+        self.assertNotIn('<p class="warning">FAILED', self.few())
+
+    def test_what_is_not_known_is_said(self):
+        operations = [it for name in range(1, 41) for it in (f"alloc {name} 100", f"free {name}")]
+        page = self.page(self.trace(*operations), "+MHacul", "0", more=("--fronts", "5"))
+        unknown = summed(data_in(page)["figures"]["unknown"])
+        count = data_in(page)["unknown"]
+        self.assertEqual(sum(it > 0 for it in unknown), count)
+        self.assertIn(f"At {count} moments of 81 the size of a carrier is not known. Its blocks alone count there", page)
+        self.assertIn('<path class="unknown" d="M', page)
+        carriers = summed(data_in(page)["figures"]["carriers"])
+        self.assertEqual({it for it, count in zip(carriers, unknown) if count}, {14})
+        self.assertNotIn('class="unknown"', self.few())
+
+    def test_it_needs_nothing_else(self):
+        page = self.few()
+        self.assertEqual(re.findall(r"https?://|\bsrc=|@import|<link", page), [])
+        self.assertEqual(re.findall(r"@[A-Z]+@", page), [])
+
+    def test_it_says_what_it_shows(self):
+        """Each drawing has a title and a description, each control a name, and so have the canvases' frames."""
+        parts = Parts(self.few())
+        drawings = parts.of("svg")
+        self.assertEqual(len(drawings), 3)
+        for it in drawings:
+            self.assertEqual((it["role"], bool(parts.words[it["aria-labelledby"]])), ("img", True))
+            self.assertTrue(parts.words[it["aria-describedby"]])
+        self.assertIn("the most is 0.0 MB of carriers, after entry 1", parts.words["main-desc"])
+        labelled = {it.get("for") for it in parts.of("label")}
+        for it in parts.of("input") + parts.of("select"):
+            self.assertTrue(it.get("aria-label") or it["id"] in labelled, it)
+        self.assertEqual({it["role"] for it in parts.of("canvas")}, {"img"})
+        self.assertEqual([it for it in parts.of("html")], [{"lang": "en"}])
+
+    def test_its_colours_can_be_told_apart(self):
+        """Text from its ground by 4.5, blocks and curves from theirs by 3, in both schemes."""
+        light, dark = re.findall(r":root \{(.*?)\}", self.few(), re.S)[:2]
+        for scheme in light, dark:
+            ink = dict(re.findall(r"--([\w-]+): (#[0-9a-f]{6})", scheme))
+            for name in "text", "dim", "mark", "a", "b":
+                self.assertGreater(contrast(ink[name], ink["page"]), 4.5, (name, ink[name]))
+            for name in "text", "dim":
+                self.assertGreater(contrast(ink[name], ink["panel"]), 4.5)
+            for name in ("one", "pointed", "queued", *(f"c{it}" for it in range(1, 9))):
+                self.assertGreater(contrast(ink[name], ink["gap"]), 3, (name, ink[name]))
+            for name in "a", "b", "within", "mark":
+                self.assertGreater(contrast(ink[name], ink["spare"]), 3, (name, ink[name]))
+
+
+class Beside(Case):
+    """Two lists of flags, one trace."""
+
+    def two(self, trace, first, second):
+        """The page, and the data of both runs."""
+        self.draw("--trace", trace, "--output", self.path("a.html"), "--beside", second, "--", *first)
+        page = self.read("a.html")
+        found = re.findall(r'<script type="application/json" id="(data|beside)">(.*?)</script>', page, re.S)
+        self.assertEqual([name for name, _ in found], ["data", "beside"])
+        return page, *(json.loads(it) for _, it in found)
+
+    def test_each_run_is_as_alone(self):
+        trace = self.trace(*FEW)
+        _, *both = self.two(trace, FEW_FLAGS, self.write("b.flags", "+MHacul\n0\n"))
+        for found, flags in zip(both, (FEW_FLAGS, ("+MHacul", "0"))):
+            wanted = self.data("--trace", trace, "--", *flags)
+            for it in "opens", "list":
+                wanted.pop(it), found.pop(it)
+            self.assertEqual(found, wanted)
+
+    def test_one_axis_and_one_scale(self):
+        """With carriers of a page and of 64 pages, which are the most."""
+        page, first, second = self.two(self.trace(*FEW), FEW_FLAGS, self.write("b.flags", "+MHacul\n0\n"))
+        height = 1000 - round(960 / 64)
+        self.assertIn(f'<path class="a" d="M0 1000H285V{height}H2000"/>', page)
+        self.assertIn('<path class="b" d="M0 1000H285V40H2000"/>', page)
+        self.assertEqual((first["opens"], second["opens"]), (1, 1))
+        self.assertIn("At their peaks B has 0.2 MB more than A.", page)
+        for it in "A: MB of carriers", "A: MB in blocks", "B: MB of carriers", "B: MB in blocks":
+            self.assertIn(f"</i>{it}</li>", page)
+
+    def test_it_opens_at_the_greater_peak(self):
+        trace = self.trace("alloc 1 600000", "free 1", "alloc 2 100")
+        _, first, second = self.two(trace, ("+MHacul", "0"), "+MHlmbcs 4096 +MHsmbcs 4096")
+        self.assertEqual((first["peak"], second["peak"], first["opens"], second["opens"]), (1, 3, 3, 3))
+
+    def test_words_come_after_the_first_list(self):
+        page, first, second = self.two(self.trace("alloc 1 100"), ("+MHacul", "0"), "+MHsbct 64 +MHacul 50")
+        self.assertEqual((first["flags"], second["flags"]), ("+MHacul 0", "+MHacul 0 +MHsbct 64 +MHacul 50"))
+        self.assertIn("as aoffcbf, <b>acul 0</b>, <b>sbct 512</b>, smbcs 256, lmbcs 5120 ", page)
+        self.assertIn("as aoffcbf, <b>acul 50</b>, <b>sbct 64</b>, smbcs 256, lmbcs 5120 ", page)
+
+    def test_lists_of_files_have_their_names(self):
+        one, other = self.write("one.flags", "+MHacul\n0\n"), self.write("other.flags", "+MHacul\n50\n")
+        words = "--trace", self.trace("alloc 1 100"), "--output", self.path("a.html")
+        self.draw(*words, "--flags", one, "--beside", other)
+        for it in "A: one.flags", "B: other.flags":
+            self.assertIn(f'<span class="letter">{it}</span>', self.read("a.html"))
+
+    def test_orders_of_their_own_are_said(self):
+        """Of recorded operations both have the same one."""
+        said = "The two runs have the entries of their schedulers in orders of their own."
+        lines = "type H", "2 alloc 1 100", "1 idle", "end", ""
+        page, *_ = self.two(self.write("a.input", "\n".join(lines)), (), "+MHacul 0")
+        self.assertNotIn(said, page)
+        self.draw(*self.example("down-from-own"), "--output", self.path("a.html"), "--beside", "+MHacul 0")
+        self.assertIn(said, self.read("a.html"))
+
+    def test_each_type_has_a_page(self):
+        lines = "types H B", "scheduler 1", "H alloc 1 100", "B alloc 1 100", "schedule", "end", ""
+        trace = self.write("a.trace", "\n".join(lines))
+        self.draw("--trace", trace, "--output", self.path("c.html"), "--beside", "+MBsbct 64")
+        for letter, bold in ("B", 2), ("H", 0):
+            self.assertEqual(self.read(f"c.{letter}.html").count("<b>sbct "), bold)
+
+    def test_what_is_refused(self):
+        words = "--trace", self.trace("idle"), "--output", self.path("a.html")
+        place = "the words of the first list and of --beside"
+        self.refused(f"{place}: word 4: bad value", *words, "--beside", "+MHramv no", "--", "+MHacul", "0",
+                     expected="+MHramv takes true false, and not 'no'")
+        none = self.path("none")
+        self.refused(f"{none}: No such file or directory", *words, "--beside", none)
+        trace = self.write("a.region", "super\nscheduler 1\nend\n")
+        said = f"{trace}: --beside draws two runs of allocators, and this is an input of `super`"
+        self.refused(said, "--trace", trace, "--output", self.path("a.html"), "--beside", "+MMscs 2")
+        ran = self.run_tool("--trace", trace, "--svg", self.path("a.svg"), "--beside", "+MMscs 2")
+        self.assertEqual((ran.returncode, "--beside is for the page of --output" in ran.stderr), (2, True))
+
+
 class Schedulers(Case):
     def test_the_end_is_that_of_the_text(self):
         migrating = "returned-too-late", "higher-acul.acul60", "freed-in-the-pool", "lost-fetch"
@@ -493,7 +731,7 @@ class ManySchedulers(Case):
 
     def test_the_page_has_the_owners(self):
         data = self.data("--trace", self.sections(EACH_HAS_ONE, "schedule"), "--", *ONE_PAGE_EACH)
-        self.assertEqual(len(set(data["colours"])), 64)
+        self.assertEqual(data["schedulers"], 64)
         for instance in range(1, 65):
             number = (instance - 1) * NUMBERS + 1
             self.assertEqual(users_of(data, number), [instance])
