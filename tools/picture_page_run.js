@@ -12,7 +12,7 @@ const megabytes = units => `${(units / UNITS_OF_A_MB).toFixed(1)} MB`;
 function bytesWords(units) {
   const bytes = units * BYTES;
   if (units >= UNITS_OF_A_MB / 10) return megabytes(units);
-  return bytes < 10240 ? plural(bytes, "byte") : `${(bytes / 1024).toFixed(1)} kB`;
+  return bytes < 1024 ? plural(bytes, "byte") : `${(bytes / 1024).toFixed(1)} kB`;
 }
 const sizeWords = units => `${bytesWords(units)} (${plural(units, "unit")})`;
 // As in 1, 3 to 5.

@@ -5,6 +5,7 @@ Without PROGRAM the tool takes the one that ./run keeps. What is expected is wor
 docs/reference, or read from the program's text by this file's own reading. The tests with a browser are skipped where
 there is no chromium.
 """
+import html
 import html.parser
 import itertools
 import json
@@ -1257,6 +1258,100 @@ class Browser(Case):
         }).join(", ") + "; " + at("picture").dataset.drawn + "; " + at("bare").textContent"""
         wanted = "carrier 1, carrier 3073, carrier 4097, carrier 36865, carrier 64513; 64; "
         self.assertEqual(self.said("a.html", "", script), wanted)
+
+    def test_it_opens_at_the_peak_and_marks_lead_to_moments(self):
+        """The peak, which is a button too, is after entry 1; the address leads elsewhere."""
+        trace = self.trace("alloc 1 600000", "free 1", "# mark here", "alloc 2 100", "# mark there")
+        self.draw("--trace", trace, "--output", self.path("a.html"), "--", "+MHacul", "0")
+        script = """(() => {
+            const moments = [at("picture").dataset.moment];
+            for (const it of document.querySelectorAll(".mark")) {
+                it.click();
+                moments.push(it.textContent + " " + at("picture").dataset.moment + " " + location.hash);
+            }
+            return moments.join("; ");
+        })()"""
+        said = "1; peak 0.6 MB 1 #at=1; here 2 #at=2; there 3 #at=3"
+        self.assertEqual(self.said("a.html", "", script), said)
+        self.assertTrue(self.said("a.html", "#at=3", script).startswith("3; "))
+
+    def test_the_slider_has_keys_and_says_where_it_is(self):
+        """Up and down are keys of the slider alone: elsewhere they move the page."""
+        self.draw("--trace", self.trace(*FEW), "--output", self.path("a.html"), "--", *FEW_FLAGS)
+        script = """(() => {
+            const press = (on, key) => {
+                on.dispatchEvent(new KeyboardEvent("keydown", { key, bubbles: true }));
+                return at("picture").dataset.moment;
+            };
+            const slider = at("slider");
+            const moments = [press(slider, "ArrowRight"), press(slider, "ArrowUp"), press(slider, "ArrowDown"),
+                press(document.body, "ArrowUp"), press(document.body, "ArrowLeft"), press(at("number"), "ArrowLeft")];
+            return [...moments, slider.value, slider.getAttribute("aria-valuetext"),
+                document.querySelector(".cursor").style.left].join("; ");
+        })()"""
+        said = "3; 4; 3; 3; 2; 2; 2; after entry 2; 0.0 MB of carriers, 0.0 MB in blocks; 28.5714%"
+        self.assertEqual(self.said("a.html", "#at=2", script), said)
+
+    def test_one_colour_until_an_instance_is_pointed_at(self):
+        """Of nine instances; eight have a colour each."""
+        script = """(() => {
+            const colours = () => new Set(panes[0].instances.map(it => panes[0].colourOf(it))).size;
+            const over = (id, x, y) => {
+                const box = at(id).getBoundingClientRect(), where = { clientX: box.left + x, clientY: box.top + y };
+                at(id).dispatchEvent(new MouseEvent("mousemove", where));
+                return colours() + " " + view.pointed;
+            };
+            const row = panes[0].rows.rows.find(it => it.carrier && it.owner === 3), { y } = panes[0].stripOf(5);
+            const said = [colours(), over("rows", 60, row.y + 9), over("regions", 30, y + 9)];
+            at("rows").dispatchEvent(new MouseEvent("mouseleave"));
+            said.push(colours(), at("choice").hidden);
+            at("instance").value = 3;
+            at("instance").dispatchEvent(new Event("change"));
+            return [...said, colours()].join("; ");
+        })()"""
+        for count, said in (9, "1; 2 3; 2 5; 1; false; 2"), (8, "8; 8 0; 8 0; 8; true; 8"):
+            trace, flags = self.sections(EACH_HAS_ONE[:count], "schedule"), ("+S", str(count), *ONE_PAGE_EACH[2:])
+            self.draw("--trace", trace, "--output", self.path("a.html"), "--", *flags)
+            self.assertEqual(self.said("a.html", "", script), said)
+
+    def test_two_runs_at_one_moment_and_to_one_scale(self):
+        """The second has a carrier of 64 pages where the first has one of a page."""
+        words = "--trace", self.trace(*FEW), "--output", self.path("a.html"), "--beside", "+MHsmbcs 256 +MHlmbcs 256"
+        self.draw(*words, "--", *FEW_FLAGS)
+        script = """(() => {
+            at("slider").value = 6;
+            at("slider").dispatchEvent(new Event("input"));
+            return panes.map(it => [it.root.dataset.moment, it.root.dataset.blocks, it.run.carriers[0].pages,
+                it.rows.scale === panes[0].rows.scale, it.regions.scale === panes[0].regions.scale,
+                it.at("figures").textContent.split(" of")[0]].join(" ")).join("; ");
+        })()"""
+        self.assertEqual(self.said("a.html", "", script), "6 2 1 true true 0.0 MB; 6 2 64 true true 0.3 MB")
+
+    def test_a_narrow_page_needs_no_sideways_scrolling(self):
+        """At 360 pixels, of one run and of two with many marks and instances."""
+        marks = [f"# mark a-mark-of-some-length-{it}" for it in range(5)]
+        trace = self.sections([*EACH_HAS_ONE[:8], ["alloc 9 3000", *marks]], "schedule")
+        words = "--trace", trace, "--output", self.path("a.html"), "--", "+S", "9", *ONE_PAGE_EACH[2:]
+        for more in (), ("--beside", "+MHsmbcs 256 +MHlmbcs 256 +MHsbct 64"):
+            self.draw(*more, *words)
+            frame = html.escape(self.read("a.html"))
+            script = """const { documentElement, defaultView } = frames[0].document;
+                const wide = [...documentElement.querySelectorAll("main *")].filter(it => !it.closest(".table, svg")
+                    && it.getBoundingClientRect().right > 360.5).map(it => it.id || it.className);
+                document.body.dataset.said = [frames[0].innerWidth, documentElement.scrollWidth, ...wide].join(" ");"""
+            page = f'<body><iframe width="360" height="800" style="border: 0" srcdoc="{frame}"></iframe>'
+            page += f"<script>window.onload = () => {{ {script} }}</script></body>"
+            dom = self.browse(self.write("b.html", page), "", "--dump-dom")
+            self.assertEqual(re.search(r'data-said="([^"]*)"', dom).group(1), "360 360")
+
+    def test_the_carriers_as_a_table(self):
+        self.draw("--trace", self.trace(*FEW), "--output", self.path("a.html"), "--", *FEW_FLAGS)
+        script = """(() => {
+            at("table").open = true;
+            goTo(2);
+            return [...at("body").rows].map(it => [...it.cells].map(it => it.textContent).join(", ")).join("; ");
+        })()"""
+        self.assertEqual(self.said("a.html", "", script), "1, 4.0 kB, 5, 2, multi, 1, employed by 1, page 0")
 
     def test_jumps_in_a_long_run(self):
         """Anywhere in a hundred thousand entries; how long they and the page's start take is printed."""
