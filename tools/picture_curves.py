@@ -88,10 +88,9 @@ def peak_words(figures):
 
 def course_words(figures):
     """What a curve shows, for those who do not see it."""
-    run, told = figures.run, [(0, "at the begin"), *figures.run.marks(), (figures.run.last, "at the end")]
+    marks = [(moment, f"at the mark {name}") for moment, name in figures.run.marks()]
     parts = []
-    for moment, name in told:
-        where = name if name.startswith("at the ") else f"at the mark {name}"
+    for moment, where in [(0, "at the begin"), *marks, (figures.run.last, "at the end")]:
         parts.append(f"{where} {megabytes(figures.carriers[moment])} and {megabytes(figures.blocks(moment))}")
     return f"{peak_words(figures)}. Of carriers and in blocks there are {'; '.join(parts)}."
 
@@ -101,8 +100,8 @@ def unknown_words(figures):
     if not count:
         return []
     what = plural(count, "moment")
-    return [f"At {what} of {figures.count} the size of a carrier is not known. Its blocks alone count there, so there are"
-            " at least as many megabytes as the curve shows; a broken line at its foot marks these moments."]
+    return [f"At {what} of {figures.count} the size of a carrier is not known. Its blocks alone count there, so there"
+            " are at least as many megabytes as the curve shows; a broken line at its foot marks these moments."]
 
 
 # Paths
@@ -197,13 +196,15 @@ class Plot:
     def text(self, name, title, told, more_keys="", before=""):
         """The figure: its title and keys, and the paths with the words of the axes; `before` stands above the frame."""
         keys = "".join(f'<li><i class="stroke {it.kind}"></i>{html.escape(it.words)}</li>' for it in self.lines)
-        up = "".join(f'<span class="tick y" style="bottom:{100 * part:.2f}%">{it}</span>' for part, it in self.ticks_up())
+        up = "".join(f'<span class="tick y" style="bottom:{100 * part:.2f}%">{it}</span>'
+                     for part, it in self.ticks_up())
         along = "".join(f'<span class="tick x" style="left:{100 * part:.2f}%">{it}</span>'
                         for part, it in self.ticks_along())
         return (
-            f'<figure class="plot {name}"><figcaption>{html.escape(title)}</figcaption><ul class="keys">{keys}{more_keys}</ul>'
-            f'<div class="room">{before}<div class="frame"><svg viewBox="0 0 {LONG} {HIGH}" preserveAspectRatio="none"'
-            f' role="img" aria-labelledby="{name}-title" aria-describedby="{name}-desc">'
+            f'<figure class="plot {name}"><figcaption>{html.escape(title)}</figcaption>'
+            f'<ul class="keys">{keys}{more_keys}</ul><div class="room">{before}<div class="frame">'
+            f'<svg viewBox="0 0 {LONG} {HIGH}" preserveAspectRatio="none" role="img" aria-labelledby="{name}-title"'
+            f' aria-describedby="{name}-desc">'
             f'<title id="{name}-title">{html.escape(title)}</title><desc id="{name}-desc">{html.escape(told)}</desc>'
             f'{"".join(self.parts)}</svg>{up}{along}<span class="tick axis">entries of the run</span>'
             '<i class="cursor"></i></div></div></figure>'
@@ -226,16 +227,17 @@ def mark_buttons(figures):
         found.append((it.peak, "mark most", f"{letter}peak {megabytes(it.carriers[it.peak])}", ""))
     for moment, kind, words, what in sorted(found, key=lambda it: it[0]):
         said = html.escape(f"{what}{words}, {moment_words(figures[0].run, moment)}")
-        yield f'<button class="{kind}" data-at="{moment}" title="{said}" aria-label="{said}">{html.escape(words)}</button>'
+        names = f'title="{said}" aria-label="{said}"'
+        yield f'<button class="{kind}" data-at="{moment}" {names}>{html.escape(words)}</button>'
 
 
 def memory_plot(figures):
     """The main figure: megabytes of carriers and in blocks, of one run or of two."""
+    kinds = [("a", "within")] if len(figures) == 1 else [("a", "a dashed"), ("b", "b dashed")]
     lines = []
-    for letter, kinds, it in zip(letters_of(figures), (("a", "within" if len(figures) == 1 else "a dashed"),
-                                                       ("b", "b dashed")), figures):
-        lines.append(Line(kinds[0], f"{letter}MB of carriers", megabytes_of(it.carriers)))
-        lines.append(Line(kinds[1], f"{letter}MB in blocks", megabytes_of(map(sum, zip(it.held, it.queued)))))
+    for letter, (outer, inner), it in zip(letters_of(figures), kinds, figures):
+        lines.append(Line(outer, f"{letter}MB of carriers", megabytes_of(it.carriers)))
+        lines.append(Line(inner, f"{letter}MB in blocks", megabytes_of(map(sum, zip(it.held, it.queued)))))
     plot = Plot(lines, max(it.run.last for it in figures), " MB")
     unknown = [any(it) for it in itertools.zip_longest(*(it.unknown for it in figures))]
     plot.draw(figures[0].run.marks(), lines[:2], unknown)
@@ -257,5 +259,6 @@ def other_plots(figures):
                  for letter, kind, it in zip(letters_of(figures), kinds, figures)]
         plot = Plot(lines, last, unit)
         plot.draw()
-        most = "; ".join(f"{letter}{max(it.values):.4g}{unit} at most" for letter, it in zip(letters_of(figures), lines))
+        most = "; ".join(f"{letter}{max(it.values):.4g}{unit} at most"
+                         for letter, it in zip(letters_of(figures), lines))
         yield plot.text(name, title, f"{title}: {most}.")

@@ -29,9 +29,9 @@ const momentWords = it => it === 0 ? "before the first entry" : it > runs[0].dat
 // Of each run the megabytes at a moment.
 function memoryWords(it) {
   return runs.map((run, place) => {
-    const [carriers, held, queued] = ["carriers", "held", "queued"].map(name => run.figures[name][Math.min(it, run.last)]);
-    const least = run.figures.unknown[Math.min(it, run.last)] ? "at least " : "";
-    return `${names[place] && names[place] + ": "}${least}${megabytes(carriers)} of carriers, ${megabytes(held + queued)} in blocks`;
+    const at = Math.min(it, run.last), { carriers, held, queued, unknown } = run.figures;
+    const least = unknown[at] ? "at least " : "", name = names[place] && names[place] + ": ";
+    return `${name}${least}${megabytes(carriers[at])} of carriers, ${megabytes(held[at] + queued[at])} in blocks`;
   });
 }
 function show(wanted) {

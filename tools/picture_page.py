@@ -1,4 +1,4 @@
-"""The page of a run, or of two side by side, for tools/picture: picture_page.html with its scripts and the runs' data."""
+"""The page of a run, or of two side by side, for tools/picture: picture_page.html with its scripts and their data."""
 import html
 import json
 import os
@@ -104,7 +104,8 @@ def list_head(run, other, letter):
     flags = html.escape(" ".join(run.program.words) or "no flags")
     failed = run.failed_words()
     warning = f'<p class="warning">{html.escape(failed)}</p>' if failed else ""
-    return f'<div class="list{letter and f" of-{letter.lower()}"}"><p>{said}</p><p class="line">{flags}</p>{warning}</div>'
+    kind = f"list of-{letter.lower()}" if letter else "list"
+    return f'<div class="{kind}"><p>{said}</p><p class="line">{flags}</p>{warning}</div>'
 
 
 def saved_words(figures):

@@ -339,9 +339,9 @@ class Pane {
     const place = it.base < 0 ? "base and pages not known" : `base ${it.base}, ${plural(it.pages, "page")} of 4 kB`;
     const free = it.pages ? `, ${bytesWords(it.units - it.held - it.queued - HEADER)} free` : "";
     const who = standingWords(it) + (it.stopped ? ", which is stopped" : "");
+    const size = it.pages ? sizeWords(it.units) : "size not known", queued = `${bytesWords(it.queued)} queued`;
     return `carrier ${it.life.number}, ${it.life.kind}, owner ${it.life.owner}, ${who}\n`
-      + `${it.pages ? sizeWords(it.units) : "size not known"}, ${plural(it.blocks, "block")} of ${bytesWords(it.held)}, `
-      + `queued ${bytesWords(it.queued)}${free}\n${place}`;
+      + `${size}, ${plural(it.blocks, "block")}, ${bytesWords(it.held)} live, ${queued}${free}\n${place}`;
   }
   address(carrier, offset) {
     if (carrier.base < 0) return "address not known";
