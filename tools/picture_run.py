@@ -283,6 +283,28 @@ class Run:
         free = units - live - queued - header
         return {"carriers": len(pages), "units": units, "live": live, "queued": queued, "free": free, "header": header}
 
+    def marks(self):
+        """The moments of the input's marks, with their names, by these moments."""
+        return sorted(((self.moment_of(*place), name) for name, *place in self.trace.marks), key=lambda it: it[0])
+
+    def moment_of(self, section, done):
+        """The moment after that many operations of a section, or of all if their order is that of the input."""
+        if self.is_exact or self.trace.order is not None:
+            return min(done, len(self.order))
+        moments = [at for at, it in enumerate(self.order, 1) if it.scheduler == section]
+        if not moments:
+            return 0
+        return moments[min(done, len(moments)) - 1] if done else moments[0] - 1
+
+    def failed_words(self):
+        """What has to be said if allocations failed, or nothing."""
+        reasons = [line.rsplit(" ", 1)[1] for log in self.text.logs for line in log if " fail need " in line]
+        if not reasons:
+            return ""
+        space, numbers = reasons.count("space"), reasons.count("numbers")
+        return (f"FAILED allocations: {len(reasons)}, so less is drawn than the load has: {space} for want of pages (a"
+                f" larger +MMscs), {numbers} for want of numbers (an instance has 1024 carriers at most)")
+
     def front_at(self, moment):
         lengths = [0] * len(self.trace.sections)
         for entry in self.order[:moment] if not self.is_exact else ():

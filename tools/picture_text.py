@@ -1,6 +1,7 @@
 """Traces, texts and the program, for tools/picture."""
+import os
 import re
-from dataclasses import dataclass, replace
+from dataclasses import dataclass, field, replace
 
 from expected import explained
 from files import read_file, reason_of
@@ -9,6 +10,9 @@ from refused import Refused
 from texts import need_of, read_carrier, read_total
 
 MOST_STEPS_OF_A_STOP = 100_000_000
+# How a comment of an input begins that marks a moment of it.
+MARK = b"# mark "
+OPERATIONS = ("alloc", "realloc", "free", "give", "take", "idle", "info")
 
 
 # What the program reads and writes
@@ -29,6 +33,9 @@ class Trace:
     # Of recorded operations the scheduler of each, in their order, and the rules of a node by which they run.
     order: list = None
     rules: str = ""
+    # Of each mark its name, the section in which it stands, counted from 1, and after how many operations of that one;
+    # of recorded operations after how many of all.
+    marks: list = field(default_factory=list)
 
     @property
     def has_threads(self):
@@ -177,7 +184,24 @@ def read_traces(data):
             trace.sections[-1].append(" ".join(words[several:]))
             trace.places[-1].append(at)
             at += 1
+    for trace in traces.values():
+        trace.marks = [*marks_of(data, f"{trace.letter} " if several else "")]
     return [*traces.values()]
+
+
+def marks_of(data, before):
+    """The marks of an input: the name of each, and after how many operations of which section it stands. `before` is
+    what an operation has before its own words."""
+    is_one = re.compile(f"{before}({'|'.join(OPERATIONS)})( |$)").match
+    section = done = 0
+    for line in data.split(b"\n"):
+        words = " ".join(line.decode("latin-1").split())
+        if line.startswith(MARK):
+            yield line[len(MARK) :].decode(errors="replace").strip(), section, done
+        elif words.startswith("scheduler "):
+            section, done = section + 1, 0
+        elif is_one(words):
+            done += 1
 
 
 def read_recorded(data):
@@ -189,7 +213,9 @@ def read_recorded(data):
         sections[int(me) - 1].append(" ".join(words))
     order = [int(it[0]) for it in lines]
     places, rules = [[*range(len(it))] for it in sections], rules_of(data.split(b"\n"))
-    return Trace(first[1], sections, {}, ["schedule", "end"], places, order=order, rules=rules)
+    found = Trace(first[1], sections, {}, ["schedule", "end"], places, order=order, rules=rules)
+    found.marks = [*marks_of(data, "[0-9]+ ")]
+    return found
 
 
 def part_of(text, trace):
@@ -282,11 +308,13 @@ def live_of(logs):
 
 
 class Program:
-    """The program with the flags that it is given."""
+    """The program with the flags that it is given: of a file, or else of words that stand in these."""
 
-    def __init__(self, path, words, flags_file):
+    def __init__(self, path, words, flags_file, place="the words after --"):
         self.before = int(words[:1] != [] and words[0] in COMMANDS)
-        self.path, self.words, self.flags_file = path, words[self.before :], flags_file
+        self.path, self.words, self.flags_file, self.place = path, words[self.before :], flags_file, place
+        # What the list of flags is called.
+        self.name = os.path.basename(flags_file or "") or " ".join(self.words) or "no flags"
 
     def run(self, data, name, asked=None):
         """The text of this input, which stands in the file of this name, by the command that its lines are of, or by
@@ -314,4 +342,4 @@ class Program:
         said = re.sub("^word ([0-9]+)", lambda it: f"word {int(it[1]) + self.before}", said)
         if self.flags_file:
             return f"{self.flags_file}: {said.replace('word ', 'line ', 1)}"
-        return f"the words after --: {said}"
+        return f"{self.place}: {said}"

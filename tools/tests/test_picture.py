@@ -5,6 +5,8 @@ Without PROGRAM the tool takes the one that ./run keeps. What is expected is wor
 docs/reference, or read from the program's text by this file's own reading. The tests with a browser are skipped where
 there is no chromium.
 """
+import html
+import html.parser
 import itertools
 import json
 import os
@@ -247,8 +249,10 @@ class Heads(Case):
             self.assertEqual((data["flags"], data["held"]), (flags, held))
 
     def test_the_page_shows_them(self):
-        self.draw("--trace", self.trace("alloc 1 100"), "--output", self.path("a.html"))
-        self.assertIn('at("about").textContent = [D.flags || "no flags", `held: ${D.held}`,', self.read("a.html"))
+        """Without its script, and with the words of the list."""
+        self.draw("--trace", self.trace("alloc 1 100"), "--output", self.path("a.html"), "--", "+MHsbct", "64", "+S", "1")
+        held = f"held: as aoffcbf, acul 60, {self.SIZES.replace('sbct 512', 'sbct 64')} · 1 scheduler · super carrier 64 MB"
+        self.assertIn(f'<p>{held}</p><p class="line">+MHsbct 64 +S 1</p>', self.read("a.html"))
 
     def test_each_type_has_its_own(self):
         lines = "types H T", "scheduler 1", "H alloc 1 100", "T alloc 1 100", "schedule", "end", ""
@@ -261,6 +265,243 @@ class Heads(Case):
         trace = self.write("a.input", "super\nscheduler 1\ntake 1 10\nend\n")
         self.draw("--trace", trace, "--svg", self.path("a.svg"), "--", "+MHas", "gf")
         self.assertNotIn("held: ", self.read("a.svg"))
+
+
+# The units in carriers and in blocks at each moment of FEW, whose carrier has one page.
+FEW_UNITS = [0, 14, 28, 14, 26, 26, 40, 14]
+
+
+class Parts(html.parser.HTMLParser):
+    """The elements of a page with their attributes, and the words in each svg's title and desc."""
+
+    def __init__(self, page):
+        super().__init__()
+        self.found, self.words, self.inside = [], {}, []
+        self.feed(re.sub(r"<script.*?</script>", "", page, flags=re.S))
+
+    def handle_starttag(self, tag, attributes):
+        self.found.append((tag, dict(attributes)))
+        self.inside = [tag, dict(attributes).get("id")]
+
+    def handle_data(self, data):
+        if self.inside and self.inside[0] in ("title", "desc") and self.inside[1]:
+            self.words[self.inside[1]] = data
+        self.inside = []
+
+    def of(self, tag):
+        return [it for name, it in self.found if name == tag]
+
+
+def luminance(colour):
+    """As in the Web Content Accessibility Guidelines."""
+    parts = [int(colour[at : at + 2], 16) / 255 for at in (1, 3, 5)]
+    red, green, blue = (it / 12.92 if it <= 0.03928 else ((it + 0.055) / 1.055) ** 2.4 for it in parts)
+    return 0.2126 * red + 0.7152 * green + 0.0722 * blue
+
+
+def contrast(one, other):
+    low, high = sorted((luminance(one), luminance(other)))
+    return (high + 0.05) / (low + 0.05)
+
+
+class Page(Case):
+    """What a page has without its script: curves, marks, and what is said."""
+
+    def page(self, trace, *flags, more=()):
+        self.draw("--trace", trace, "--output", self.path("a.html"), *more, "--", *flags)
+        return self.read("a.html")
+
+    def few(self):
+        return self.page(self.trace(*FEW), *FEW_FLAGS)
+
+    def test_the_figures_of_each_moment(self):
+        figures = {name: summed(it) for name, it in data_in(self.few())["figures"].items()}
+        self.assertEqual(figures, {
+            "carriers": [0, *[PAGE_OF_UNITS] * 7], "held": FEW_UNITS, "queued": [0] * 8, "number": [0, *[1] * 7],
+            "unknown": [0] * 8})
+
+    def test_the_curves_and_the_area_between(self):
+        """The frame has 2000 by 1000, and the most, a page, takes 960. A value holds up to the next moment."""
+        page = self.few()
+        places = [at * 2000 // 7 for at in range(8)]
+        heights = [1000 - round(960 * it / PAGE_OF_UNITS) for it in FEW_UNITS]
+        blocks = "M0 1000" + "".join(f"H{places[at]}V{heights[at]}" for at in (1, 2, 3, 4, 6, 7)) + "H2000"
+        carriers = f"M0 1000H{places[1]}V40H2000"
+        self.assertIn(f'<path class="a" d="{carriers}"/>', page)
+        self.assertIn(f'<path class="within" d="{blocks}"/>', page)
+        back = "".join(f"H{places[at]}V{heights[at - 1]}" for at in (7, 6, 4, 3, 2, 1))
+        self.assertIn(f'<path class="spare" d="{carriers}V{heights[7]}{back}H0Z"/>', page)
+        self.assertIn("free in carriers: what other flags can save", page)
+
+    def test_the_axes_have_their_units(self):
+        """Two megabytes and 7 entries; megabytes come first."""
+        page = self.page(self.trace(*(f"alloc {it} 240000" for it in range(1, 8))), "+MHacul", "0", "+MHlmbcs", "2048",
+                         "+MHsmbcs", "2048")
+        main = page.partition('class="plot main"')[2].partition("</figure>")[0]
+        ticks = lambda kind: re.findall(f'<span class="tick {kind}"[^>]*>([^<]*)<', main)
+        self.assertEqual(ticks("y"), ["0 MB", "0.5 MB", "1 MB", "1.5 MB", "2 MB"])
+        self.assertEqual((ticks("x"), ticks("axis")), (["0", "2", "4", "6"], ["entries of the run"]))
+        self.assertLess(page.index('class="plot main"'), page.index('data-id="rows"'))
+        self.assertLess(page.index('class="plot main"'), page.index('class="plot number"'))
+
+    def test_it_opens_at_the_most_megabytes(self):
+        """Of the same most the first moment counts."""
+        trace = self.trace("alloc 1 2000", "alloc 2 600000", "free 2", "alloc 3 600000", "free 1")
+        page = self.page(trace, "+MHacul", "0")
+        data = data_in(page)
+        self.assertEqual((data["peak"], data["opens"]), (2, 2))
+        # A carrier of 64 pages, and one of 147: 211 pages are 0.8 MB. 252 and 75002 units are in blocks.
+        self.assertIn("The most is 0.8 MB of carriers, after entry 2, with 0.6 MB in blocks: 0.3 MB are free.", page)
+
+    def test_marks(self):
+        """Of one scheduler by its section, of several by the entries that are shown, of recorded operations by all."""
+        lines = ["# mark one", "alloc 1 100", "# mark two", "# no mark", "free 1", "# mark three"]
+        self.assertEqual(data_in(self.page(self.trace(*lines)))["marks"], [[0, "one"], [1, "two"], [2, "three"]])
+        trace = self.sections((["alloc 1 100", "idle"], ["# mark <here>", "idle", "# mark there"]), "schedule")
+        page = self.page(trace, "+S", "2")
+        self.assertEqual(data_in(page)["marks"], [[2, "<here>"], [3, "there"]])
+        self.assertIn('data-at="2" title="mark &lt;here&gt;, after entry 2"', page)
+        lines = "type H", "2 alloc 1 100", "# mark one", "1 idle", "1 idle", "# mark two", "end", ""
+        data = data_in(self.page(self.write("a.input", "\n".join(lines))))
+        self.assertEqual(data["marks"], [[1, "one"], [3, "two"]])
+
+    def test_marks_of_one_of_several_types(self):
+        lines = "types H B", "scheduler 1", "H idle", "B idle", "# mark here", "H idle", "schedule", "end", ""
+        self.draw("--trace", self.write("a.trace", "\n".join(lines)), "--output", self.path("a.html"))
+        for letter in "HB":
+            self.assertEqual(data_in(self.read(f"a.{letter}.html"))["marks"], [[1, "here"]])
+
+    def test_what_failed_is_said(self):
+        trace = self.trace("alloc 1 524280", "alloc 2 524280")
+        words = "--trace", trace, "--output", self.path("a.html"), "--", "+MMscs", "1"
+        self.assertEqual(self.run_tool(*words).returncode, 0)
+        self.assertIn('<p class="warning">FAILED allocations: 1, so less is drawn', self.read("a.html"))
+        self.assertNotIn('<p class="warning">FAILED', self.few())
+
+    def test_what_is_not_known_is_said(self):
+        operations = [it for name in range(1, 41) for it in (f"alloc {name} 100", f"free {name}")]
+        page = self.page(self.trace(*operations), "+MHacul", "0", more=("--fronts", "5"))
+        unknown = summed(data_in(page)["figures"]["unknown"])
+        count = data_in(page)["unknown"]
+        self.assertEqual(sum(it > 0 for it in unknown), count)
+        self.assertIn(f"At {count} moments of 81 the size of a carrier is not known. Its blocks alone count there", page)
+        self.assertIn('<path class="unknown" d="M', page)
+        carriers = summed(data_in(page)["figures"]["carriers"])
+        self.assertEqual({it for it, count in zip(carriers, unknown) if count}, {14})
+        self.assertNotIn('class="unknown"', self.few())
+
+    def test_it_needs_nothing_else(self):
+        page = self.few()
+        self.assertEqual(re.findall(r"https?://|\bsrc=|@import|<link", page), [])
+        self.assertEqual(re.findall(r"@[A-Z]+@", page), [])
+
+    def test_it_says_what_it_shows(self):
+        """Each drawing has a title and a description, each control a name, and so have the canvases' frames."""
+        parts = Parts(self.few())
+        drawings = parts.of("svg")
+        self.assertEqual(len(drawings), 3)
+        for it in drawings:
+            self.assertEqual((it["role"], bool(parts.words[it["aria-labelledby"]])), ("img", True))
+            self.assertTrue(parts.words[it["aria-describedby"]])
+        self.assertIn("the most is 0.0 MB of carriers, after entry 1", parts.words["main-desc"])
+        labelled = {it.get("for") for it in parts.of("label")}
+        for it in parts.of("input") + parts.of("select"):
+            self.assertTrue(it.get("aria-label") or it["id"] in labelled, it)
+        self.assertEqual({it["role"] for it in parts.of("canvas")}, {"img"})
+        self.assertEqual([it for it in parts.of("html")], [{"lang": "en"}])
+
+    def test_its_colours_can_be_told_apart(self):
+        """Text from its ground by 4.5, blocks and curves from theirs by 3, in both schemes."""
+        light, dark = re.findall(r":root \{(.*?)\}", self.few(), re.S)[:2]
+        for scheme in light, dark:
+            ink = dict(re.findall(r"--([\w-]+): (#[0-9a-f]{6})", scheme))
+            for name in "text", "dim", "mark", "a", "b":
+                self.assertGreater(contrast(ink[name], ink["page"]), 4.5, (name, ink[name]))
+            for name in "text", "dim":
+                self.assertGreater(contrast(ink[name], ink["panel"]), 4.5)
+            for name in ("one", "pointed", "queued", *(f"c{it}" for it in range(1, 9))):
+                self.assertGreater(contrast(ink[name], ink["gap"]), 3, (name, ink[name]))
+            for name in "a", "b", "within", "mark":
+                self.assertGreater(contrast(ink[name], ink["spare"]), 3, (name, ink[name]))
+
+
+class Beside(Case):
+    """Two lists of flags, one trace."""
+
+    def two(self, trace, first, second):
+        """The page, and the data of both runs."""
+        self.draw("--trace", trace, "--output", self.path("a.html"), "--beside", second, "--", *first)
+        page = self.read("a.html")
+        found = re.findall(r'<script type="application/json" id="(data|beside)">(.*?)</script>', page, re.S)
+        self.assertEqual([name for name, _ in found], ["data", "beside"])
+        return page, *(json.loads(it) for _, it in found)
+
+    def test_each_run_is_as_alone(self):
+        trace = self.trace(*FEW)
+        _, *both = self.two(trace, FEW_FLAGS, self.write("b.flags", "+MHacul\n0\n"))
+        for found, flags in zip(both, (FEW_FLAGS, ("+MHacul", "0"))):
+            wanted = self.data("--trace", trace, "--", *flags)
+            for it in "opens", "list":
+                wanted.pop(it), found.pop(it)
+            self.assertEqual(found, wanted)
+
+    def test_one_axis_and_one_scale(self):
+        """With carriers of a page and of 64 pages, which are the most."""
+        page, first, second = self.two(self.trace(*FEW), FEW_FLAGS, self.write("b.flags", "+MHacul\n0\n"))
+        height = 1000 - round(960 / 64)
+        self.assertIn(f'<path class="a" d="M0 1000H285V{height}H2000"/>', page)
+        self.assertIn('<path class="b" d="M0 1000H285V40H2000"/>', page)
+        self.assertEqual((first["opens"], second["opens"]), (1, 1))
+        self.assertIn("At their peaks B has 0.2 MB more than A.", page)
+        for it in "A: MB of carriers", "A: MB in blocks", "B: MB of carriers", "B: MB in blocks":
+            self.assertIn(f"</i>{it}</li>", page)
+
+    def test_it_opens_at_the_greater_peak(self):
+        trace = self.trace("alloc 1 600000", "free 1", "alloc 2 100")
+        _, first, second = self.two(trace, ("+MHacul", "0"), "+MHlmbcs 4096 +MHsmbcs 4096")
+        self.assertEqual((first["peak"], second["peak"], first["opens"], second["opens"]), (1, 3, 3, 3))
+
+    def test_words_come_after_the_first_list(self):
+        page, first, second = self.two(self.trace("alloc 1 100"), ("+MHacul", "0"), "+MHsbct 64 +MHacul 50")
+        self.assertEqual((first["flags"], second["flags"]), ("+MHacul 0", "+MHacul 0 +MHsbct 64 +MHacul 50"))
+        self.assertIn("as aoffcbf, <b>acul 0</b>, <b>sbct 512</b>, smbcs 256, lmbcs 5120 ", page)
+        self.assertIn("as aoffcbf, <b>acul 50</b>, <b>sbct 64</b>, smbcs 256, lmbcs 5120 ", page)
+
+    def test_lists_of_files_have_their_names(self):
+        one, other = self.write("one.flags", "+MHacul\n0\n"), self.write("other.flags", "+MHacul\n50\n")
+        words = "--trace", self.trace("alloc 1 100"), "--output", self.path("a.html")
+        self.draw(*words, "--flags", one, "--beside", other)
+        for it in "A: one.flags", "B: other.flags":
+            self.assertIn(f'<span class="letter">{it}</span>', self.read("a.html"))
+
+    def test_orders_of_their_own_are_said(self):
+        """Of recorded operations both have the same one."""
+        said = "The two runs have the entries of their schedulers in orders of their own."
+        lines = "type H", "2 alloc 1 100", "1 idle", "end", ""
+        page, *_ = self.two(self.write("a.input", "\n".join(lines)), (), "+MHacul 0")
+        self.assertNotIn(said, page)
+        self.draw(*self.example("down-from-own"), "--output", self.path("a.html"), "--beside", "+MHacul 0")
+        self.assertIn(said, self.read("a.html"))
+
+    def test_each_type_has_a_page(self):
+        lines = "types H B", "scheduler 1", "H alloc 1 100", "B alloc 1 100", "schedule", "end", ""
+        trace = self.write("a.trace", "\n".join(lines))
+        self.draw("--trace", trace, "--output", self.path("c.html"), "--beside", "+MBsbct 64")
+        for letter, bold in ("B", 2), ("H", 0):
+            self.assertEqual(self.read(f"c.{letter}.html").count("<b>sbct "), bold)
+
+    def test_what_is_refused(self):
+        words = "--trace", self.trace("idle"), "--output", self.path("a.html")
+        place = "the words of the first list and of --beside"
+        self.refused(f"{place}: word 4: bad value", *words, "--beside", "+MHramv no", "--", "+MHacul", "0",
+                     expected="+MHramv takes true false, and not 'no'")
+        none = self.path("none")
+        self.refused(f"{none}: No such file or directory", *words, "--beside", none)
+        trace = self.write("a.region", "super\nscheduler 1\nend\n")
+        said = f"{trace}: --beside draws two runs of allocators, and this is an input of `super`"
+        self.refused(said, "--trace", trace, "--output", self.path("a.html"), "--beside", "+MMscs 2")
+        ran = self.run_tool("--trace", trace, "--svg", self.path("a.svg"), "--beside", "+MMscs 2")
+        self.assertEqual((ran.returncode, "--beside is for the page of --output" in ran.stderr), (2, True))
 
 
 class Schedulers(Case):
@@ -491,7 +732,7 @@ class ManySchedulers(Case):
 
     def test_the_page_has_the_owners(self):
         data = self.data("--trace", self.sections(EACH_HAS_ONE, "schedule"), "--", *ONE_PAGE_EACH)
-        self.assertEqual(len(set(data["colours"])), 64)
+        self.assertEqual(data["schedulers"], 64)
         for instance in range(1, 65):
             number = (instance - 1) * NUMBERS + 1
             self.assertEqual(users_of(data, number), [instance])
@@ -940,7 +1181,7 @@ class Browser(Case):
             wanted = count_by_text(text, moment)
             self.assertEqual((shown["moment"], shown["blocks"], shown["drawn"]), (moment, wanted, wanted))
         picture = self.path("a.png")
-        self.browse(self.path("a.html"), "#at=60", f"--screenshot={picture}")
+        self.browse(self.path("a.html"), "#at=60", f"--screenshot={picture}", "--window-size=1200,1600")
         rows = pixels(picture)
         self.assertGreater(sum(row.count(BLUE) for row in rows), 3000)
 
@@ -975,8 +1216,8 @@ class Browser(Case):
         """Block 2 of 14 units lies at offset 22, so its middle is at 29 of the 512 units of its carrier."""
         self.draw("--trace", self.trace(*FEW), "--output", self.path("a.html"), "--", *FEW_FLAGS)
         script = """(() => {
-            const box = at("rows").getBoundingClientRect(), x = box.left + LABEL + 29 * view.rows.scale;
-            const y = box.top + view.rows.rows[1].y + 10;
+            const box = at("rows").getBoundingClientRect(), { left, scale, rows } = panes[0].rows;
+            const x = box.left + left + 29 * scale, y = box.top + rows[1].y + 10;
             at("rows").dispatchEvent(new MouseEvent("mousemove", { clientX: x, clientY: y }));
             const pointed = tip.textContent;
             const moments = ["Home", "ArrowRight", "ArrowRight", "ArrowLeft", "End", "ArrowLeft"].map(key => {
@@ -985,7 +1226,7 @@ class Browser(Case):
             });
             return [pointed, ...moments].join("; ");
         })()"""
-        pointed = "block 2, since entry 2\ncarrier 1, offset 22, 14 units (112 bytes)\n"
+        pointed = "block 2, since entry 2\ncarrier 1, offset 22, 112 bytes (14 units)\n"
         pointed += "address 0xb0 in the super carrier"
         self.assertEqual(self.said("a.html", "#at=2", script), f"{pointed}; 0:0; 1:1; 2:2; 1:1; 7:1; 6:2")
 
@@ -1010,13 +1251,107 @@ class Browser(Case):
         self.draw("--trace", self.sections(EACH_HAS_ONE, "schedule"), "--output", self.path("a.html"), "--",
                   *ONE_PAGE_EACH)
         script = """[1, 4, 5, 37, 64].map(instance => {
-            const box = at("regions").getBoundingClientRect(), { x, y } = stripOf(instance);
-            const middle = x + view.regions.label + 200 * view.regions.scale;
+            const box = at("regions").getBoundingClientRect(), { x, y } = panes[0].stripOf(instance);
+            const middle = x + panes[0].regions.label + 200 * panes[0].regions.scale;
             const event = { clientX: box.left + middle, clientY: box.top + y + 12 };
-            return /carrier \\d+/.exec(overRegions(event))[0];
+            return /carrier \\d+/.exec(panes[0].overRegions(event))[0];
         }).join(", ") + "; " + at("picture").dataset.drawn + "; " + at("bare").textContent"""
         wanted = "carrier 1, carrier 3073, carrier 4097, carrier 36865, carrier 64513; 64; "
         self.assertEqual(self.said("a.html", "", script), wanted)
+
+    def test_it_opens_at_the_peak_and_marks_lead_to_moments(self):
+        """The peak, which is a button too, is after entry 1; the address leads elsewhere."""
+        trace = self.trace("alloc 1 600000", "free 1", "# mark here", "alloc 2 100", "# mark there")
+        self.draw("--trace", trace, "--output", self.path("a.html"), "--", "+MHacul", "0")
+        script = """(() => {
+            const moments = [at("picture").dataset.moment];
+            for (const it of document.querySelectorAll(".mark")) {
+                it.click();
+                moments.push(it.textContent + " " + at("picture").dataset.moment + " " + location.hash);
+            }
+            return moments.join("; ");
+        })()"""
+        said = "1; peak 0.6 MB 1 #at=1; here 2 #at=2; there 3 #at=3"
+        self.assertEqual(self.said("a.html", "", script), said)
+        self.assertTrue(self.said("a.html", "#at=3", script).startswith("3; "))
+
+    def test_the_slider_has_keys_and_says_where_it_is(self):
+        """Up and down are keys of the slider alone: elsewhere they move the page."""
+        self.draw("--trace", self.trace(*FEW), "--output", self.path("a.html"), "--", *FEW_FLAGS)
+        script = """(() => {
+            const press = (on, key) => {
+                on.dispatchEvent(new KeyboardEvent("keydown", { key, bubbles: true }));
+                return at("picture").dataset.moment;
+            };
+            const slider = at("slider");
+            const moments = [press(slider, "ArrowRight"), press(slider, "ArrowUp"), press(slider, "ArrowDown"),
+                press(document.body, "ArrowUp"), press(document.body, "ArrowLeft"), press(at("number"), "ArrowLeft")];
+            return [...moments, slider.value, slider.getAttribute("aria-valuetext"),
+                document.querySelector(".cursor").style.left].join("; ");
+        })()"""
+        said = "3; 4; 3; 3; 2; 2; 2; after entry 2; 0.0 MB of carriers, 0.0 MB in blocks; 28.5714%"
+        self.assertEqual(self.said("a.html", "#at=2", script), said)
+
+    def test_one_colour_until_an_instance_is_pointed_at(self):
+        """Of nine instances; eight have a colour each."""
+        script = """(() => {
+            const colours = () => new Set(panes[0].instances.map(it => panes[0].colourOf(it))).size;
+            const over = (id, x, y) => {
+                const box = at(id).getBoundingClientRect(), where = { clientX: box.left + x, clientY: box.top + y };
+                at(id).dispatchEvent(new MouseEvent("mousemove", where));
+                return colours() + " " + view.pointed;
+            };
+            const row = panes[0].rows.rows.find(it => it.carrier && it.owner === 3), { y } = panes[0].stripOf(5);
+            const said = [colours(), over("rows", 60, row.y + 9), over("regions", 30, y + 9)];
+            at("rows").dispatchEvent(new MouseEvent("mouseleave"));
+            said.push(colours(), at("choice").hidden);
+            at("instance").value = 3;
+            at("instance").dispatchEvent(new Event("change"));
+            return [...said, colours()].join("; ");
+        })()"""
+        for count, said in (9, "1; 2 3; 2 5; 1; false; 2"), (8, "8; 8 0; 8 0; 8; true; 8"):
+            trace, flags = self.sections(EACH_HAS_ONE[:count], "schedule"), ("+S", str(count), *ONE_PAGE_EACH[2:])
+            self.draw("--trace", trace, "--output", self.path("a.html"), "--", *flags)
+            self.assertEqual(self.said("a.html", "", script), said)
+
+    def test_two_runs_at_one_moment_and_to_one_scale(self):
+        """The second has a carrier of 64 pages where the first has one of a page."""
+        words = "--trace", self.trace(*FEW), "--output", self.path("a.html"), "--beside", "+MHsmbcs 256 +MHlmbcs 256"
+        self.draw(*words, "--", *FEW_FLAGS)
+        script = """(() => {
+            at("slider").value = 6;
+            at("slider").dispatchEvent(new Event("input"));
+            return panes.map(it => [it.root.dataset.moment, it.root.dataset.blocks, it.run.carriers[0].pages,
+                it.rows.scale === panes[0].rows.scale, it.regions.scale === panes[0].regions.scale,
+                it.at("figures").textContent.split(" of")[0]].join(" ")).join("; ");
+        })()"""
+        self.assertEqual(self.said("a.html", "", script), "6 2 1 true true 0.0 MB; 6 2 64 true true 0.3 MB")
+
+    def test_a_narrow_page_needs_no_sideways_scrolling(self):
+        """At 360 pixels, of one run and of two with many marks and instances."""
+        marks = [f"# mark a-mark-of-some-length-{it}" for it in range(5)]
+        trace = self.sections([*EACH_HAS_ONE[:8], ["alloc 9 3000", *marks]], "schedule")
+        words = "--trace", trace, "--output", self.path("a.html"), "--", "+S", "9", *ONE_PAGE_EACH[2:]
+        for more in (), ("--beside", "+MHsmbcs 256 +MHlmbcs 256 +MHsbct 64"):
+            self.draw(*more, *words)
+            frame = html.escape(self.read("a.html"))
+            script = """const { documentElement, defaultView } = frames[0].document;
+                const wide = [...documentElement.querySelectorAll("main *")].filter(it => !it.closest(".table, svg")
+                    && it.getBoundingClientRect().right > 360.5).map(it => it.id || it.className);
+                document.body.dataset.said = [frames[0].innerWidth, documentElement.scrollWidth, ...wide].join(" ");"""
+            page = f'<body><iframe width="360" height="800" style="border: 0" srcdoc="{frame}"></iframe>'
+            page += f"<script>window.onload = () => {{ {script} }}</script></body>"
+            dom = self.browse(self.write("b.html", page), "", "--dump-dom")
+            self.assertEqual(re.search(r'data-said="([^"]*)"', dom).group(1), "360 360")
+
+    def test_the_carriers_as_a_table(self):
+        self.draw("--trace", self.trace(*FEW), "--output", self.path("a.html"), "--", *FEW_FLAGS)
+        script = """(() => {
+            at("table").open = true;
+            goTo(2);
+            return [...at("body").rows].map(it => [...it.cells].map(it => it.textContent).join(", ")).join("; ");
+        })()"""
+        self.assertEqual(self.said("a.html", "", script), "1, 4.0 kB, 5, 2, multi, 1, employed by 1, page 0")
 
     def test_jumps_in_a_long_run(self):
         """Anywhere in a hundred thousand entries; how long they and the page's start take is printed."""
