@@ -96,13 +96,22 @@ class Trace:
     stops: dict
     has_turns: bool
     is_threaded: bool
-    # Of recorded operations the rules of a node by which they run: the empty text where they name none.
+    # Of recorded operations the rules of a node by which they run, the empty text where they name none, and the
+    # scheduler of each line.
     rules: str = None
+    order: list = None
 
     def has_one_order(self):
-        """Whether each scheduler does all of its operations before the next one begins, or one alone has any."""
-        is_one = len(self.sections) == 1 or sum(map(bool, self.sections)) == 1
+        """Whether operations come in the order of their lines, each scheduler does all of its own before the next one
+        begins, or one alone has any."""
+        is_one = len(self.sections) == 1 or sum(map(bool, self.sections)) == 1 or self.order is not None
         return is_one or bool(self.sections) and not self.has_turns and not self.is_threaded
+
+    def steps(self):
+        """The scheduler of each operation, where they have one order."""
+        return self.order if self.order is not None else [
+            me for me, section in enumerate(self.sections, 1) for _ in section
+        ]
 
 
 @dataclass
@@ -147,14 +156,15 @@ def read_traces(text):
 def read_recorded(lines):
     """The trace of recorded operations: those of each scheduler. How many there are the lines need not tell; one that
     has none has an empty section, and so have those that only the flags know, of which nothing is asked."""
-    sections = {}
+    sections, order = {}, []
     for line in lines[1:]:
-        me, _, operation = line.strip().partition(b" ")
+        me, *operation = line.split(None, 1)
         if me.isdigit():
-            sections.setdefault(int(me), []).append(operation.strip())
+            order.append(int(me))
+            sections.setdefault(int(me), []).append(operation[0].strip())
     count = max(sections, default=1)
     parts = [sections.get(it, []) for it in range(1, count + 1)]
-    return Trace(lines[0].split()[1].decode(), parts, {}, True, False, rules_of(lines))
+    return Trace(lines[0].split()[1].decode(), parts, {}, True, False, rules_of(lines), order)
 
 
 def read_texts(text):
