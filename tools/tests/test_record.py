@@ -75,9 +75,10 @@ class Case(unittest.TestCase):
         return ran.stdout if status == 0 else ran.stderr
 
     def made(self, *events, more=()):
-        """The operations that are made of these events of B."""
+        """The operations that are made of these events of B, without the `info` lines of marks."""
         path = self.write("a.record", HEAD + "".join(f"{it}\n" for it in events))
-        return operations(self.load("--recorded", path, "--type", "B", "--rules", "none", *more))
+        lines = operations(self.load("--recorded", path, "--type", "B", "--rules", "none", *more))
+        return [it for it in lines if not it.endswith(" info")]
 
 
 class Events(Case):
@@ -127,14 +128,46 @@ class Events(Case):
         lines = self.made("alloc B 1 a0 100", "realloc B 1 a0 200", "to B 1 a0", more=("--more", "8"))
         self.assertEqual(lines[1:-1], ["1 alloc 1 108", "1 realloc 1 2 208"])
 
+    def with_marks(self, head, *events, more=()):
+        """The operations and marks that are made of these events."""
+        path = self.write("a.record", head + "".join(f"{it}\n" for it in events))
+        text = self.load("--recorded", path, "--type", "B", "--rules", "none", *more)
+        return [it for it in text.splitlines() if it[0] != "#" or it.startswith("# mark ")][1:-1]
+
     def test_marks(self):
-        path = self.write("a.record", HEAD + "".join(f"alloc B 1 a{it} 8\n" for it in range(5)))
-        text = self.load("--recorded", path, "--type", "B")
-        lines = [it for it in text.splitlines() if it[0] != "#" or it.startswith("# mark ")]
-        self.assertEqual(lines[2:8], ["# mark begin", "1 alloc 1 8", "1 alloc 2 8", "1 alloc 3 8", "# mark middle",
-                                      "1 alloc 4 8"])
+        """Before each mark each scheduler has an `info`, but where nothing was since the one before."""
+        head, infos = HEAD.replace("mark 3 middle", "mark 0 peak\nmark 3 middle"), ["1 info", "2 info"]
+        lines = self.with_marks(head, *(f"alloc B 1 a{it} 8" for it in range(5)))
+        self.assertEqual(lines, ["# mark begin", "# mark peak", "1 alloc 1 8", "1 alloc 2 8", "1 alloc 3 8", *infos,
+                                 "# mark middle", "1 alloc 4 8", "1 alloc 5 8", *infos, "# mark end"])
+        path = f"{self.room}/a.record"
         lines = operations(self.load("--recorded", path, "--type", "B", "--until", "middle"))
-        self.assertEqual(len(lines), 6)
+        self.assertEqual(lines[2:], ["1 alloc 1 8", "1 alloc 2 8", "1 alloc 3 8", *infos, "end"])
+        self.assertEqual(self.with_marks(head, *(["alloc B 1 a0 8"] * 5), more=("--as", "trace"))[-2:],
+                         ["schedule", "1*9"])
+
+    def test_peak_and_valley_are_marks_of_themselves(self):
+        """The most bytes, and then the least after that, of all events: here of other threads and types, too."""
+        events = ["alloc B 1 a0 500", "alloc B 2 b0 400", "free B 1 a0", "alloc B 1 c0 300", "alloc B 3 d0 9000",
+                  "realloc B 2 b0 700", "to B 2 e0", "alloc H 1 f0 9000", "free B 1 c0", "alloc B 1 c0 10", "free B 2 e0",
+                  "alloc B 1 b0 20"]
+        infos = ["1 info", "2 info"]
+        lines = self.with_marks(HEAD, *events)
+        at = lines.index("# mark peak")
+        self.assertEqual(lines[at - 3 : at + 2], ["2 realloc 2 4 700", *infos, "# mark peak", "1 free 3"])
+        at = lines.index("# mark valley")
+        self.assertEqual(lines[at - 3 : at + 2], ["2 free 4", *infos, "# mark valley", "1 alloc 6 20"])
+        said = "# Mark peak is where there are the most bytes in blocks, 1000; mark valley is where there are the least"
+        self.assertIn(f"{said} after that, 10.\n", self.load("--recorded", f"{self.room}/a.record", "--type", "B"))
+
+    def test_a_peak_without_a_valley_and_none_where_there_are_such_marks(self):
+        growing = ["alloc B 1 a0 500", "alloc B 2 b0 400"]
+        for head, events, wanted in ((HEAD, growing, ["begin", "peak", "end"]), (HEAD, [], ["begin", "end"]),
+                                     (HEAD.replace("middle", "valley-1"), [*growing, "free B 1 a0", "free B 2 b0"],
+                                      ["begin", "peak", "valley-1", "end"])):
+            head = head.replace("mark 3 middle", "mark 0 middle")
+            marks = [it.split()[2] for it in self.with_marks(head, *events) if it[0] == "#"]
+            self.assertEqual([it for it in marks if it != "middle"], wanted)
 
     def test_the_rules_are_those_of_the_node(self):
         """All without a super carrier, and all but falling with one; others and none if that is asked for."""
@@ -150,7 +183,7 @@ class Events(Case):
             path = self.write("a.record", HEAD.replace("super 0", f"super {megabytes}") + "alloc B 1 a0 8\n")
             text = self.load("--recorded", path, "--type", "B", *words)
             line = [rules.replace("the ", "")] if rules.startswith("the") else []
-            self.assertEqual(operations(text), ["type B", *line, "1 alloc 1 8", "end"])
+            self.assertEqual(operations(text)[: len(line) + 2], ["type B", *line, "1 alloc 1 8"])
             self.assertIn(f"\n# It runs by {rules}; {has}\n", text)
 
     def test_a_trace_has_no_rules(self):
@@ -174,7 +207,7 @@ class Events(Case):
         lines = operations(text)
         self.assertLessEqual(len(lines) - 3, 1048576)
         self.assertLessEqual(len(text), 2**24)
-        self.assertEqual(lines[-2].split()[:2], ["2", "free"])
+        self.assertIn(lines[-2].split()[1], ("alloc", "free"))
         self.assertIn("# CUT: ", text)
 
     def test_a_trace_is_cut_where_its_takes_would_try_too_often(self):
