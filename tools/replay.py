@@ -64,12 +64,11 @@ def now_in(entry):
     return [[int(entry[begin + at]) for at in NOW] for begin in (0, len(entry) // 2)]
 
 
-def largest_gap(blocks, units):
-    """Of a carrier with blocks at these offsets, of these units."""
-    end, largest = HEADER, 0
-    for offset, size in sorted(blocks):
-        end, largest = offset + size, max(largest, offset - end)
-    return max(largest, units - end)
+def gaps_of(blocks, units):
+    """The units of the gaps of a carrier with blocks at these offsets, of these units."""
+    ends = [HEADER, *(offset + size for offset, size in sorted(blocks))]
+    begins = [*(offset for offset, _ in sorted(blocks)), units]
+    return [begin - end for begin, end in zip(begins, ends) if begin > end]
 
 
 class Replay:
@@ -291,13 +290,18 @@ class Replay:
 
     # What there is
 
+    def blocks(self):
+        """The offset and the units of each block, by the number of its carrier."""
+        found = defaultdict(list)
+        for number, *spot in self.spots.values():
+            found[number].append(spot)
+        return found
+
     def lines(self):
         """The carriers as a text has them, without their places."""
-        blocks = defaultdict(list)
-        for number, *spot in self.spots.values():
-            blocks[number].append(spot)
+        blocks = self.blocks()
         for number, it in sorted(self.carriers.items()):
-            pages, largest = it.units // UNITS_OF_A_PAGE, largest_gap(blocks[number], it.units)
+            pages, largest = it.units // UNITS_OF_A_PAGE, max(gaps_of(blocks[number], it.units), default=0)
             yield Line(number, it.kind, owner_of(number), it.standing, it.holder, 0, pages, it.block_units, largest)
 
     def keep_moment(self, _):
@@ -389,6 +393,18 @@ def run_copy(program, words, trace, missing, seconds):
     copy = copy_of(trace, *missing)
     ran = copy and run([program, *command_of(copy.split(b"\n", 2)), *words], copy, seconds)
     return read_text(ran.stdout) if ran and ran.returncode == 0 else None
+
+
+def contents(words, trace, text):
+    """Each carrier's line at the end of recorded operations, with the units of its blocks and gaps; None where these do
+    not agree. It takes no infos: which blocks are there the entries tell alone."""
+    found = Replay(text, Settings.of(words, trace.letter).migrates)
+    found.follow(steps_of(trace.steps(), text.logs), [])
+    found.end(text)
+    blocks = found.blocks()
+    made = [(it, [size for _, size in blocks[it.number]], gaps_of(blocks[it.number], it.units)) for it in text.carriers]
+    agree = all((sum(sizes), max(gaps, default=0)) == (it.allocated, it.largest) for it, sizes, gaps in made)
+    return made if agree else None
 
 
 def replay(program, words, trace, text, seconds, places=()):

@@ -12,13 +12,11 @@ from flags import Settings
 from program import NO_RULES, OF_RECORDED, Ended, command_of, is_said, run, told_of, with_schedulers
 from replay import UNITS_EVER, replay
 from texts import (
-    BYTES_OF_A_UNIT, NUMBERS_OF_AN_INSTANCE, Text, carrier_of, is_placed, owner_of, read_texts, read_traces,
+    BYTES_OF_A_UNIT, NUMBERS_OF_AN_INSTANCE, WHOLE, Text, carrier_of, is_placed, mark_in, marks_of, owner_of,
+    read_texts, read_traces,
 )
 
 UNITS_OF_A_MB = 2**17
-MARK = b"# mark "
-OPERATIONS = (b"alloc", b"free", b"realloc", b"give", b"take", b"info", b"idle")
-WHOLE = "end"
 
 
 def percent(part, whole):
@@ -177,23 +175,6 @@ def read_input(file):
             return source.read(), None
     except OSError as error:
         return None, f"{file}: {reason_of(error)}"
-
-
-def mark_in(line):
-    """The name of a mark, or None where the line is none."""
-    return line[len(MARK) :].decode("latin-1").strip() if line.startswith(MARK) else None
-
-
-def marks_of(data):
-    """The marks of an input but `end`, each with how many operations come before it."""
-    count, marks = 0, []
-    for line in data.split(b"\n"):
-        name = mark_in(line)
-        if name not in (None, WHOLE):
-            marks.append((name, count))
-        words = line.split(None, 1)[:1]
-        count += bool(words) and (words[0].isdigit() or words[0] in OPERATIONS)
-    return marks
 
 
 def fronts_of(data):

@@ -81,6 +81,41 @@ def need_of(size):
     return max(SMALLEST_BLOCK, units + units % 2)
 
 
+# Marks
+
+MARK, WHOLE = b"# mark ", "end"
+OPERATIONS = (b"alloc", b"free", b"realloc", b"give", b"take", b"info", b"idle")
+
+
+def mark_in(line):
+    """The name of a mark, or None where the line is none."""
+    return line[len(MARK) :].decode("latin-1").strip() if line.startswith(MARK) else None
+
+
+def marks_of(data):
+    """The marks of an input but `end`, each with how many operations come before it."""
+    count, marks = 0, []
+    for line in data.split(b"\n"):
+        name = mark_in(line)
+        if name not in (None, WHOLE):
+            marks.append((name, count))
+        words = line.split(None, 1)[:1]
+        count += bool(words) and (words[0].isdigit() or words[0] in OPERATIONS)
+    return marks
+
+
+def front_at(data, count):
+    """Recorded operations up to so many of them."""
+    kept = []
+    for line in data.split(b"\n"):
+        words = line.split(None, 1)[:1]
+        count -= bool(words) and words[0].isdigit()
+        if count < 0 or words == [b"end"]:
+            break
+        kept.append(line)
+    return b"\n".join([*kept, b"end", b""])
+
+
 # Traces and texts
 
 
