@@ -186,6 +186,8 @@ class Maker:
         self.threads, self.others = recording.threads, others
         self.infos = [(it, "info") for it in range(1, recording.schedulers + 1)]
         self.live, self.peak, self.valley = 0, Moment(), Moment()
+        # The bytes of blocks that each scheduler allocated, and the most that one had of them.
+        self.live_of, self.most_live = Counter(), 0
         self.own_marks = [] if is_trace else own_marks(recording)
         self.letter, self.more, self.is_trace = letter, more, is_trace
         self.blocks, self.moving = {}, {}
@@ -233,6 +235,12 @@ class Maker:
     def lines_of_mark(self, name):
         return [*((me, f"{me} {line}\n") for me, line in self.infos), (0, f"# mark {name}\n")]
 
+    def grow(self, me, size):
+        """So many bytes of blocks more."""
+        self.live += size
+        self.live_of[me] += size
+        self.most_live = max(self.most_live, self.live_of[me])
+
     def observe(self):
         """After an event: a new peak, or a new valley after it."""
         if self.live > self.peak.live:
@@ -262,7 +270,7 @@ class Maker:
         else:
             self.add((me, f"alloc {self.names + 1} {size}"))
             self.names += 1
-            self.live += size
+            self.grow(me, size)
         self.blocks[place] = Block(self.names, size, me)
 
     def handed(self, me, block):
@@ -281,7 +289,7 @@ class Maker:
             who = me or block.holder
             self.said["freed"] += not me
             self.add(*self.handed(who, block), (who, f"free {block.name}"))
-            self.live -= block.size
+            self.grow(block.holder, -block.size)
         self.blocks.pop(place, None)
 
     def begin_move(self, thread, place, size):
@@ -294,12 +302,13 @@ class Maker:
         if old is None or not old.holder or not me or size > MOST_BYTES:
             if old and old.holder:
                 self.add((old.holder, f"free {old.name}"))
-                self.live -= old.size
+                self.grow(old.holder, -old.size)
             self.alloc(me, place, size)
             return
         self.add(*self.handed(me, old), (me, f"realloc {old.name} {self.names + 1} {size}"))
         self.names += 1
-        self.live += size - old.size
+        self.grow(old.holder, -old.size)
+        self.grow(me, size)
         self.blocks[place] = Block(self.names, size, me)
 
     def take(self, words):

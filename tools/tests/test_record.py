@@ -231,6 +231,13 @@ class Events(Case):
         self.assertEqual(lines, ["type B", "scheduler 1", "alloc 1 100", "give 1 2", "scheduler 2", "alloc 2 50",
                                  "take 1 1000", "free 1", "schedule", "1*1 2*1 1*2 2*3", "end"])
 
+    def test_the_super_carrier_holds_twice_what_a_scheduler_had(self):
+        """No mark has figures of the peak of 5000000 bytes, of which twice as many for each scheduler are 20 MB."""
+        path = self.write("a.record", HEAD)
+        self.assertIn(": +S 2 +MMscs 4 ", self.load("--recorded", path, "--type", "B"))
+        path = self.write("a.record", HEAD + "alloc B 1 a0 3000000\nalloc B 1 b0 2000000\nfree B 2 a0\nalloc B 2 c0 4000000\n")
+        self.assertIn(": +S 2 +MMscs 32 ", self.load("--recorded", path, "--type", "B"))
+
     def test_the_stored_recording(self):
         """examples/shop.record, of a node whose four schedulers all allocate, gives the input and the flags there."""
         shop = f"{TOP}/examples/shop"
@@ -336,6 +343,30 @@ class Node(Case):
         table = self.load("--recorded", path, "--type", "B", "--until", "full", "--beside", text)
         node, run = map(int, re.search(r"^bytes in blocks +([0-9]+) +([0-9]+)$", table, re.M).groups())
         self.assertLess(abs(node - run), node // 10)
+
+    def test_a_load_that_ends_its_node(self):
+        """By halt, or by a signal as a crash does: all but the figures at the end is kept, also marks."""
+        for end in "halt()", 'os:cmd("kill -9 " ++ os:getpid()), timer:sleep(9000)':
+            path = f"{self.room}/a.record"
+            said = self.record("--start", "+S 2", "B", path, "--eval", self.LOAD.replace("timer:sleep(100)", end))
+            self.assertIn(f"record: {path}: the node has ended: what it had noted is kept", said)
+            text = text_of(path)
+            sizes = [int(it) for it in re.findall(r"^alloc B [0-9]+ [0-9a-f]+ ([0-9]+)$", text, re.M)]
+            for wanted in range(5001, 5301):
+                self.assertTrue(any(wanted <= it <= wanted + 64 for it in sizes), wanted)
+            self.assertRegex(text, r"(?s)mark 0 begin\ninstance .*\nmark [0-9]+ full\ninstance .*\nmark [0-9]+ end\nthread ")
+            events = text.partition("\nevents\n")[2].splitlines()
+            self.assertEqual(re.findall(r"^mark ([0-9]+) end$", text, re.M), [str(len(events))])
+            self.assertIn("# mark full\n", self.load("--recorded", path))
+            said = f"load: {path}: mark end has no figures of B: the node had ended\n"
+            self.assertEqual(self.load("--recorded", path, "--beside", path, status=1), said)
+            os.remove(path)
+
+    def test_a_load_that_fails_leaves_the_node(self):
+        path = f"{self.room}/a.record"
+        said = self.record("--start", "+S 1", "B", path, "--eval", "exit(bad).")
+        self.assertIn(f"record: {path}: the load failed, ", said)
+        self.assertIn("\ninstance B ", text_of(path).rpartition(" end\n")[2])
 
     def test_full_memory_ends_it(self):
         path = f"{self.room}/a.record"
