@@ -235,8 +235,8 @@ class Replay:
         if comb(len(some), count) > MOST_CHOICES:
             self.is_wrong = True
             return []
-        fitting = (it for it in combinations(some, count) if [*map(sum, zip(*(one.figures() for one in it)))] == missing)
-        found = [*islice(fitting, 2)]
+        sums = ((it, [*map(sum, zip(*(one.figures() for one in it)))]) for it in combinations(some, count))
+        found = [*islice((it for it, figures in sums if figures == missing), 2)]
         self.is_wrong |= len(found) != 1
         return found[0] if found else []
 
