@@ -207,6 +207,7 @@ def table_of_mark(options):
     """The figures of the node at a mark beside those that a run of the input up to it ended with."""
     found = read_recording(options.recorded)
     letter, mark = found.letter(options.type), found.mark(options.until)
+    demand(mark.instances.get(letter), f"{found.path}: mark {mark.name} has no figures of {letter}: the node had ended")
     for name, figures in rows_of_mark(mark, letter, kinds_of_run(options.beside, letter)):
         yield (f"{name:40}" + "".join(f"{it:>14}" for it in figures)).rstrip()
     if options.input:

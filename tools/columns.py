@@ -7,7 +7,7 @@ COLUMNS = {
     "type": "the letter of the allocator, of which an input of several has a line for each",
     "ran": "what ran by these flags: the strategy, and its `acul`",
     "rules": "the rules of a node by which recorded operations ran; `none` where their input names none",
-    "mark": "with --marks: the mark up to which the input was run; `end` is the whole of it",
+    "mark": "with --marks: the mark at which all this was so; `end` is the whole run",
     "status": "with which the program ended: 0 if its text is whole",
     "mb_end": "the megabytes of all carriers at the end, of 1048576 bytes",
     "mb_most": "and at most",

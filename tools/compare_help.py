@@ -24,8 +24,7 @@ lists are read as ./run reads them.
 
 As text the first list stands first: give the node's own one first. Percent are of its figures. The others are sorted by
 their memory. There are two columns of memory: where the input has comments `# mark peak..` and `# mark valley..`, as
-tools/load writes them, there is a run up to each of these, and the columns are mb_peak and mb_valley; else they are
-mb_most, if it is known, and mb_end. --wide has nearly all columns; CSV and JSON have all.
+tools/load writes them, the columns are mb_peak and mb_valley; else they are mb_most, if it is known, and mb_end. --wide has nearly all columns; CSV and JSON have all.
 """
 
 EPILOG = """\
@@ -49,14 +48,15 @@ line. The text has no line for a carrier that is created or goes, so these are w
 
   carriers_most, mb_most, units_most, utilisation_most, abandoned, fetched, returned
       Where the text tells the order of all operations, each is exact, and comes from a replay of the entries: with one
-      scheduler, and with several under a `schedule` without turns, when each does all of its operations before the
-      next one begins. A carrier is there from the first block that is placed in it until its last block is released.
-      How large it is, and whether it was abandoned, the entries do not tell; so a copy of the trace is run as well, in
-      which an `info` follows each operation that may have changed that. In this order an `info` changes nothing else:
-      no queue has a block that its scheduler could still release. What the replay ends with is compared with the
-      carriers of the text; where they differ, or where the copy is longer than a trace may be, it is not used. They
-      differ where a scheduler is stopped within a `realloc` that had placed its block: no entry tells that. In the
-      copy a stop comes a step later for each `info` before it.
+      scheduler, of recorded operations, and under a `schedule` without turns, when each scheduler does all of its
+      operations before the next one begins. A carrier is there from the first block that is placed in it until its
+      last block is released. How large it is, and whether it was abandoned, the entries do not tell; so a copy of the
+      trace is run as well, in which an `info` follows each operation that may have changed that. In this order an
+      `info` changes nothing else: no queue has a block then that its scheduler could still release. Before a recorded
+      operation that will release queued blocks an `info` of its scheduler does this first. Its figures are compared
+      with those of the replay, and the replay's end with the carriers of the text; where they differ, or where the
+      copy is longer than a trace may be, it is not used. They differ where a scheduler is stopped within a `realloc`
+      that had placed its block: no entry tells that. In the copy a stop comes a step later for each `info` before it.
       'At most' counts what an operation holds while it is under way: the carrier that realloc moves a block to, and
       the one that it leaves. utilisation_most is the greatest after an operation.
 
@@ -97,10 +97,12 @@ do: it counts for nothing, since the input says what it is.
 
 A trace of `generate` has counts in place of logs and carriers: 'at most', the reasons of failed allocations and, if
 carriers can migrate, what these did are '-'.
-Recorded operations have an order, but with several schedulers their queues too, so they are as by turns here. Where
-their input has a line `rules`, they run by these rules of a node: the column `rules`, or a line below the table. --marks
-tells what was there at moments in between: for each line `# mark NAME` of an input, what a run of it up to there ends
-with; a run ends with the queues taken.
+Of recorded operations of several schedulers blocks that others freed are followed through the queues. Where several
+blocks of a carrier were released there, and no other was left, nothing tells whether it was abandoned in between:
+`abandoned` is a bound then. Where their input has a line `rules`, they run by these rules of a node: the column
+`rules`, or a line below the table. --marks tells what was there at each line `# mark NAME` of an input. It comes of one
+run where the order is known and the replay is exact. Else the input is run up to each mark, and then the queues are
+taken there, as they are in an input of tools/load, which has an `info` of each scheduler before each mark.
 As threads a run is one of several that there may be. Seconds are of the plain run, beside others as --jobs says.
 
 What is written when. On a terminal each run is told on standard error as it ends. CSV on standard output has its lines

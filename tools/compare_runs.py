@@ -13,7 +13,8 @@ from multiprocessing.connection import Connection, wait
 from compare_sums import PEAK, VALLEY
 from files import reason_of
 from program import LOCK, end_runs
-from rows import MARK, empty_row, read_input, rows_of_run
+from rows import empty_row, read_input, rows_of_run
+from texts import MARK
 
 CONTEXT = multiprocessing.get_context("fork")
 PEAKS = re.compile(rb"^%s *(%s|%s)" % (MARK, PEAK.encode(), VALLEY.encode()), re.MULTILINE)

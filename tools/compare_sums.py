@@ -2,8 +2,9 @@
 import itertools
 
 from columns import OF_ALL
-from rows import WHOLE, megabytes
+from rows import megabytes
 from table import number_of
+from texts import WHOLE
 
 PEAK, VALLEY = "peak", "valley"
 AT_ONE_MOMENT = (

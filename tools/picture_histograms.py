@@ -8,8 +8,10 @@ from flags import Settings, letters_of
 from picture_run import plural
 from picture_svg import MARGIN, flags_words, heading_of, rectangle, shape, svg_of, words_at
 from picture_text import is_of_region
-from program import OF_HISTOGRAMS, OF_REGION, command_of
+from program import OF_HISTOGRAMS, OF_RECORDED, OF_REGION, command_of
 from refused import Refused
+from replay import contents
+from texts import front_at, read_texts, read_traces
 
 INTERVALS = 18
 FIRST_BORDER = 16
@@ -66,12 +68,12 @@ def axis_at(x, y):
         yield words_at("small", x + BAR * at, y, str(FIRST_BORDER << (at - 1) if at else 0))
 
 
-def drawing_of(name, said, histograms):
-    """The histograms of a run, those of all carriers together first."""
+def drawing_of(name, when, said, histograms):
+    """The histograms of a moment of a run, those of all carriers together first."""
     shown = [histograms[-1], *histograms[:-1][:MOST_HISTOGRAMS]]
     most = max([1, *histograms[-1].blocks, *histograms[-1].gaps])
     places = {"blocks": MARGIN + LEFT, "gaps": MARGIN + LEFT + BAR * INTERVALS + BETWEEN}
-    parts, y = heading_of(f"{os.path.basename(name)}: sizes of blocks and gaps at the end", said, MARGIN)
+    parts, y = heading_of(f"{os.path.basename(name)}: sizes of blocks and gaps {when}", said, MARGIN)
     parts += [words_at("", x, y + 12, kind) for kind, x in places.items()]
     for it in shown:
         y += ROW
@@ -86,11 +88,43 @@ def drawing_of(name, said, histograms):
     return svg_of(places["gaps"] + BAR * INTERVALS + MARGIN, y + 54, STYLE_OF_BARS, parts)
 
 
+def interval_of(units):
+    """The interval of a size, counted from 0."""
+    return min(units.bit_length() - (FIRST_BORDER - 1).bit_length(), INTERVALS - 1) if units >= FIRST_BORDER else 0
+
+
+def counted(name, blocks, gaps):
+    """The histogram of blocks and gaps of these units."""
+    sides = [[0] * INTERVALS, [0] * INTERVALS]
+    for counts, sizes in zip(sides, (blocks, gaps)):
+        for it in sizes:
+            counts[interval_of(it)] += 1
+    return Histogram(name, *sides)
+
+
+def recorded_histograms(given, program, data):
+    """Those of recorded operations up to the moment that is asked for."""
+    data = data if given.at is None else front_at(data, given.at)
+    [text], [trace] = read_texts(program.run(data, given.trace).encode()), read_traces(data)
+    trace.sections += [[] for _ in text.logs[len(trace.sections) :]]
+    found = contents(program.words, trace, text)
+    if found is None:
+        raise Refused(f"{given.trace}: the entries do not agree with the carriers at the end")
+    each = [counted(f"carrier {line.number}", *sizes) for line, *sizes in found]
+    return [*each, counted("all", *([it for sizes in found for it in sizes[at]] for at in (1, 2)))]
+
+
 def drawn_histograms(given, program, data):
-    """What is written of the histograms of a trace: a path and a text."""
+    """What is written of the histograms of a trace, or of recorded operations: a path and a text."""
     command = OF_REGION if is_of_region(data) else "".join(command_of(data.split(b"\n", 100)[:100]))
-    if command:
+    if command not in ("", OF_RECORDED):
         raise Refused(f"{given.trace}: --histograms draws those of a trace, and this is an input of `{command}`")
-    found = read_histograms(program.run(data, given.trace, OF_HISTOGRAMS))
+    if command:
+        found = recorded_histograms(given, program, data)
+    elif given.at is not None and not given.svg:
+        raise Refused(f"{given.trace}: --at is a moment of --histograms for recorded operations alone")
+    else:
+        found = read_histograms(program.run(data, given.trace, OF_HISTOGRAMS))
     settings = Settings.of(program.words, letters_of(data.split(b"\n"))[0])
-    yield given.histograms, drawing_of(given.trace, flags_words(program.words, settings), found)
+    when = f"after {plural(given.at, 'operation')}" if command and given.at is not None else "at the end"
+    yield given.histograms, drawing_of(given.trace, when, flags_words(program.words, settings), found)

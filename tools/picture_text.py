@@ -7,11 +7,9 @@ from expected import explained
 from files import read_file, reason_of
 from program import COMMANDS, NOT_BUILT, OF_RECORDED, OF_REGION, OF_RULES, OF_SEVERAL, command_of, rules_of, run, told_of
 from refused import Refused
-from texts import need_of, read_carrier, read_total
+from texts import MARK, need_of, read_carrier, read_total
 
 MOST_STEPS_OF_A_STOP = 100_000_000
-# How a comment of an input begins that marks a moment of it.
-MARK = b"# mark "
 OPERATIONS = ("alloc", "realloc", "free", "give", "take", "idle", "info")
 
 

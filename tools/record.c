@@ -3,7 +3,10 @@
  * ones. For a test node: what is recorded costs it time, and memory that is taken when recording begins.
  *
  * A block that is allocated is noted after the call, and one that is freed before it, so no block is noted as
- * allocated where the one that lay there before is not yet noted as freed. A reallocation is noted twice. */
+ * allocated where the one that lay there before is not yet noted as freed. A reallocation is noted twice.
+ *
+ * What is noted lies in a file without a name, which tools/record has open, too: so it is left if the node ends. First
+ * come the events, then the names of the threads, and then what is kept of each mark. */
 #define _GNU_SOURCE
 #include <dlfcn.h>
 #include <link.h>
@@ -13,6 +16,7 @@
 #include <string.h>
 #include <sys/mman.h>
 #include <sys/prctl.h>
+#include <unistd.h>
 #include <erl_nif.h>
 
 #define MOST_ALLOCATORS 16
@@ -46,6 +50,9 @@ static unsigned chosen;
 
 static struct event *events;
 static uint64_t room;
+static int store = -1;
+/* Where what is kept of the next mark begins. */
+static uint64_t next_mark;
 /* From the start of a recording until it is written. */
 static int has_events;
 static atomic_ullong taken;
@@ -55,6 +62,15 @@ static atomic_uint thread_count;
 static char thread_names[MOST_THREADS][NAME_BYTES + 1];
 static __thread unsigned own_number;
 
+/* The bytes of all events, after which come the names. */
+static uint64_t event_bytes(void) { return room * sizeof *events; }
+
+static int put(const void *data, size_t bytes, uint64_t at) { return pwrite(store, data, bytes, at) == (ssize_t)bytes; }
+
+static int put_name(unsigned number) {
+    return put(thread_names[number], sizeof *thread_names, event_bytes() + number * sizeof *thread_names);
+}
+
 /* The number of the calling thread, from 1 on; 0 for those above the limit. */
 static unsigned thread_number(void) {
     if (!own_number) {
@@ -62,6 +78,7 @@ static unsigned thread_number(void) {
         if (number >= MOST_THREADS)
             return 0;
         prctl(PR_GET_NAME, thread_names[number]);
+        put_name(number);
         own_number = number;
     }
     return own_number;
@@ -166,7 +183,24 @@ static ERL_NIF_TERM nif_table(ErlNifEnv *env, int argc, const ERL_NIF_TERM argv[
     return enif_make_tuple2(env, enif_make_atom(env, "ok"), list);
 }
 
-/* start(Events, [Number]) -> ok | {error, busy | memory}. Memory is taken for that many events. */
+/* Takes memory for that many events, in a file of its own. */
+static int take_room(uint64_t wanted) {
+    if (events)
+        munmap(events, event_bytes());
+    if (store >= 0)
+        close(store);
+    room = wanted, events = MAP_FAILED, next_mark = event_bytes() + sizeof thread_names;
+    store = memfd_create("record", MFD_CLOEXEC);
+    if (store >= 0 && !ftruncate(store, next_mark) && put(thread_names, sizeof thread_names, event_bytes()))
+        events = mmap(NULL, event_bytes(), PROT_READ | PROT_WRITE, MAP_SHARED, store, 0);
+    if (events != MAP_FAILED)
+        return 1;
+    events = NULL;
+    return 0;
+}
+
+/* start(Events, [Number]) -> {ok, File} | {error, busy | memory}. Memory is taken for that many events; File is the
+ * node's number of the file in which they lie. */
 static ERL_NIF_TERM nif_start(ErlNifEnv *env, int argc, const ERL_NIF_TERM argv[]) {
     ErlNifUInt64 wanted;
     ERL_NIF_TERM head, rest = argv[1];
@@ -175,18 +209,13 @@ static ERL_NIF_TERM nif_start(ErlNifEnv *env, int argc, const ERL_NIF_TERM argv[
         return enif_make_badarg(env);
     if (has_events)
         return failed(env, "busy");
-    if (events)
-        munmap(events, room * sizeof *events);
-    events = mmap(NULL, wanted * sizeof *events, PROT_READ | PROT_WRITE, MAP_PRIVATE | MAP_ANONYMOUS, -1, 0);
-    if (events == MAP_FAILED) {
-        events = NULL;
+    if (!take_room(wanted))
         return failed(env, "memory");
-    }
     chosen = 0;
     while (enif_get_list_cell(env, rest, &head, &rest))
         if (enif_get_int(env, head, &number) && number >= 0 && number < table_length)
             chosen |= 1u << number;
-    has_events = 1, room = wanted;
+    has_events = 1;
     atomic_store(&taken, 0);
     memcpy(former, table, table_length * sizeof *table);
     atomic_store(&is_on, 1);
@@ -196,7 +225,7 @@ static ERL_NIF_TERM nif_start(ErlNifEnv *env, int argc, const ERL_NIF_TERM argv[
             __atomic_store_n(&table[it].realloc, own[it].realloc, __ATOMIC_SEQ_CST);
             __atomic_store_n(&table[it].alloc, own[it].alloc, __ATOMIC_SEQ_CST);
         }
-    return enif_make_atom(env, "ok");
+    return enif_make_tuple2(env, enif_make_atom(env, "ok"), enif_make_int(env, store));
 }
 
 static uint64_t count(void) {
@@ -212,6 +241,17 @@ static ERL_NIF_TERM nif_count(ErlNifEnv *env, int argc, const ERL_NIF_TERM argv[
 
 static ERL_NIF_TERM nif_stop(ErlNifEnv *env, int argc, const ERL_NIF_TERM argv[]) {
     end_recording();
+    return enif_make_atom(env, "ok");
+}
+
+/* keep(Binary) -> ok | {error, write}. Keeps what is told of a mark after what was kept before. */
+static ERL_NIF_TERM nif_keep(ErlNifEnv *env, int argc, const ERL_NIF_TERM argv[]) {
+    ErlNifBinary told;
+    if (!has_events || !enif_inspect_binary(env, argv[0], &told))
+        return enif_make_badarg(env);
+    if (!put(told.data, told.size, next_mark))
+        return failed(env, "write");
+    next_mark += told.size;
     return enif_make_atom(env, "ok");
 }
 
@@ -233,14 +273,14 @@ static ERL_NIF_TERM nif_write(ErlNifEnv *env, int argc, const ERL_NIF_TERM argv[
     if (!has_events || atomic_load(&is_on) || enif_get_string(env, argv[0], path, sizeof path, ERL_NIF_LATIN1) <= 0
         || enif_get_string(env, argv[1], letters, sizeof letters, ERL_NIF_LATIN1) <= table_length)
         return enif_make_badarg(env);
-    FILE *file = fopen(path, "w");
-    if (!file)
+    FILE *target = fopen(path, "w");
+    if (!target)
         return failed(env, "write");
     for (uint64_t it = 0; it < count(); it++)
-        write_event(file, &events[it], letters);
-    int is_bad = ferror(file);
-    is_bad |= fclose(file);
-    madvise(events, room * sizeof *events, MADV_DONTNEED);
+        write_event(target, &events[it], letters);
+    int is_bad = ferror(target);
+    is_bad |= fclose(target);
+    madvise(events, event_bytes(), MADV_REMOVE);
     has_events = 0;
     ERL_NIF_TERM list = enif_make_list(env, 0);
     unsigned last = atomic_load(&thread_count);
@@ -255,6 +295,7 @@ static ErlNifFunc nifs[] = {
     {"table", 0, nif_table, 0},
     {"start", 2, nif_start, 0},
     {"count", 0, nif_count, 0},
+    {"keep", 1, nif_keep, 0},
     {"stop", 0, nif_stop, 0},
     {"write", 2, nif_write, ERL_NIF_DIRTY_JOB_IO_BOUND},
 };

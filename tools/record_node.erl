@@ -1,19 +1,21 @@
 %% What tools/record loads into a node: it records through record.c, and asks the node for the figures of its carriers
 %% before, at marks and at the end. A load that the node runs may set marks itself, by record_node:mark("peak").
 -module(record_node).
--export([load/1, table/0, start/2, count/0, stop/0, write/2]).
+-export([load/1, table/0, start/2, count/0, keep/1, stop/0, write/2]).
 -export([record/3, mark/1, finish/2, options/1, super_carrier/0]).
--nifs([table/0, start/2, count/0, stop/0, write/2]).
+-nifs([table/0, start/2, count/0, keep/1, stop/0, write/2]).
 
 load(Path) -> erlang:load_nif(Path, 0).
 
 table() -> erlang:nif_error(not_loaded).
 start(_Events, _Numbers) -> erlang:nif_error(not_loaded).
 count() -> erlang:nif_error(not_loaded).
+keep(_Told) -> erlang:nif_error(not_loaded).
 stop() -> erlang:nif_error(not_loaded).
 write(_Path, _Letters) -> erlang:nif_error(not_loaded).
 
-%% Begins to record these allocators, [{Number, Letter, Type}], and ends it when Owner, a node, is gone.
+%% Begins to record these allocators, [{Number, Letter, Type}], and ends it when Owner, a node, is gone. It returns the
+%% number of the node's process and of its file with the events.
 record(Owner, Events, Allocators) ->
     Asking = self(),
     {Pid, Monitor} = spawn_monitor(fun() -> begin_recording(Asking, Owner, Events, Allocators) end),
@@ -34,8 +36,18 @@ begin_recording(Asking, Owner, Events, Allocators) ->
         true -> start(Events, [Number || {Number, _, _} <- Allocators]);
         false -> {error, busy}
     end,
-    Asking ! {self(), Started},
-    Started =:= ok andalso serve(Types, [First]).
+    case Started of
+        {ok, File} ->
+            keep_mark(First),
+            Asking ! {self(), {ok, os:getpid(), File}},
+            serve(Types, [First]);
+        _ -> Asking ! {self(), Started}
+    end.
+
+%% For the case that the node ends before the recording.
+keep_mark(Mark) ->
+    Told = term_to_binary(Mark),
+    keep(<<(byte_size(Told)):32, Told/binary>>).
 
 %% Answers those that set marks, until recording is to end.
 serve(Types, Marks) ->
@@ -43,6 +55,7 @@ serve(Types, Marks) ->
         {mark, From, Name} ->
             {Events, _} = count(),
             Marked = {Events, Name, figures(Types)},
+            keep_mark(Marked),
             From ! {?MODULE, marked},
             serve(Types, [Marked | Marks]);
         {finish, From} ->

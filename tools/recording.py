@@ -1,4 +1,5 @@
 """What tools/record wrote of a node: how tools/load reads it, and makes an input of it."""
+import contextlib
 import re
 from collections import Counter
 from dataclasses import dataclass, field
@@ -14,6 +15,7 @@ MOST_OPERATIONS = 1048576
 LARGEST_INPUT = 2**24
 MOST_BYTES = 1073741823
 END = "end\n"
+PEAK, VALLEY = "peak", "valley"
 # What the comment lines on what was made have at most, but for the name of a mark.
 MOST_TOLD = 2048
 EVENTS = ("alloc", "free", "realloc", "to")
@@ -163,6 +165,14 @@ class Full(Exception):
 
 
 @dataclass
+class Moment:
+    """How many bytes of blocks there are, and after how many lines."""
+
+    live: int = 0
+    place: int = 0
+
+
+@dataclass
 class Block:
     """The name and size of a block, and who has it; 0 is a thread that is no scheduler, whose blocks are left out."""
 
@@ -177,15 +187,21 @@ class Maker:
     def __init__(self, recording, letter, others, more, is_trace, told):
         """Lines of so many bytes come before the operations."""
         self.threads, self.others = recording.threads, others
+        self.infos = [(it, "info") for it in range(1, recording.schedulers + 1)]
+        self.live, self.peak, self.valley = 0, Moment(), Moment()
+        # The most bytes of blocks that there were at once.
+        self.most_bytes = 0
+        self.own_marks = [] if is_trace else own_marks(recording)
         self.letter, self.more, self.is_trace = letter, more, is_trace
         self.blocks, self.moving = {}, {}
         self.lines, self.names, self.operations = [], 0, 0
         self.size = told + len(END)
         if is_trace:
             self.size += sum(len(it) for it in heads(recording.schedulers))
+        for name in self.own_marks:
+            self.operations += len(self.infos)
+            self.size += sum(len(it) for _, it in self.lines_of_mark(name))
         self.counts, self.said = Counter(), Counter()
-        # The bytes of all blocks that are there, and the most that there were at once.
-        self.bytes, self.most_bytes = 0, 0
 
     def size_of(self, me, line):
         """The bytes that an operation takes; in a trace with its turns, which take fewer where they are put together."""
@@ -209,16 +225,39 @@ class Maker:
             self.counts[kind] += 1
 
     def mark(self, name):
-        """A comment line; a trace has none, since in a section it would be none of the others'."""
+        """A comment line, and before it an `info` of each scheduler if there was something since the mark before: when
+        a node is asked for its figures, its schedulers release what is queued. A trace has none, since in a section it
+        would be none of the others'."""
         line = f"# mark {name}\n"
         if not self.is_trace and self.size + len(line) <= LARGEST_INPUT:
-            self.size += len(line)
-            self.lines.append((0, line))
+            with contextlib.suppress(Full):
+                self.add(*(self.infos if self.lines and self.lines[-1][0] else []))
+                self.size += len(line)
+                self.lines.append((0, line))
+
+    def lines_of_mark(self, name):
+        return [*((me, f"{me} {line}\n") for me, line in self.infos), (0, f"# mark {name}\n")]
+
+    def observe(self):
+        """After an event: a new peak, or a new valley after it."""
+        if self.live > self.peak.live:
+            self.peak = self.valley = Moment(self.live, len(self.lines))
+        elif self.live <= self.valley.live:
+            self.valley = Moment(self.live, len(self.lines))
+
+    def set_own_marks(self):
+        """Puts the marks of peak and valley in, for which there is room."""
+        if self.valley.live == self.peak.live:
+            self.own_marks = [it for it in self.own_marks if it == PEAK and self.peak.live]
+        for name in sorted(self.own_marks, reverse=True):
+            place = self.peak.place if name == PEAK else self.valley.place
+            self.lines[place:place] = self.lines_of_mark(name)
+            self.counts["info"] += len(self.infos)
 
     def count_block(self, size, sign=1):
         """Counts the bytes of a block that was placed, or of one that went."""
-        self.bytes += sign * max(LEAST_BLOCK, -(-(size + HEADER) // BLOCK_STEP) * BLOCK_STEP)
-        self.most_bytes = max(self.most_bytes, self.bytes)
+        self.live += sign * max(LEAST_BLOCK, -(-(size + HEADER) // BLOCK_STEP) * BLOCK_STEP)
+        self.most_bytes = max(self.most_bytes, self.live)
 
     def scheduler(self, thread):
         """That of a thread; of one that is no scheduler the one that does its operations, 0 if none does."""
@@ -292,6 +331,12 @@ class Maker:
             self.begin_move(thread, place, int(words[4]) + self.more)
         else:
             self.end_move(me, thread, place)
+        self.observe()
+
+
+def own_marks(recording):
+    """The marks that are set of peak and valley: not where the recording has such."""
+    return [it for it in (PEAK, VALLEY) if not any(mark.name.startswith(it) for mark in recording.marks)]
 
 
 def follow(recording, maker, last):
@@ -329,7 +374,11 @@ def told(recording, maker, last, taken, is_whole):
     yield f"Of {last.events} recorded events of all types {taken} are taken, up to mark {last.name}."
     if not is_whole:
         yield "CUT: more operations than these do not fit an input of the program; later marks are left out."
-    yield "Operations: " + ", ".join(f"{maker.counts[it]} {it}" for it in ("alloc", "realloc", "free", "give", "take"))
+    kinds = ("alloc", "realloc", "free", "give", "take", "info")
+    yield "Operations: " + ", ".join(f"{maker.counts[it]} {it}" for it in kinds if it != "info" or maker.counts[it])
+    if maker.own_marks:
+        parts = {PEAK: f"most bytes in blocks, {maker.peak.live}", VALLEY: f"least after that, {maker.valley.live}"}
+        yield "; ".join(f"mark {it} is where there are the {parts[it]}" for it in maker.own_marks).capitalize() + "."
     for count, words in (
         (said["before"], "frees and reallocations of blocks that were there before the recording; a free is left out"),
         (said["other"], "operations of threads that are no schedulers, left out"),

@@ -14,12 +14,11 @@ from flags import Settings, as_on_a_node, letters_of
 from program import NO_RULES, OF_RECORDED, Ended, command_of, is_said, run, told_of, with_schedulers
 from replay import UNITS_EVER, replay
 from texts import (
-    BYTES_OF_A_UNIT, NUMBERS_OF_AN_INSTANCE, carrier_of, is_placed, owner_of, read_texts, read_traces,
+    BYTES_OF_A_UNIT, NUMBERS_OF_AN_INSTANCE, WHOLE, Text, carrier_of, is_placed, mark_in, marks_of, owner_of,
+    read_texts, read_traces,
 )
 
 UNITS_OF_A_MB = 2**17
-MARK = b"# mark "
-WHOLE = "end"
 # How lists of flags are read: as a node reads them, or as ./run does.
 AS_A_NODE, AS_RUN = READINGS = "node", "run"
 
@@ -109,7 +108,9 @@ def replayed(found):
         "carriers_most": found.most_carriers,
         "units_most": found.most_units,
         "utilisation_most": percent(*found.most_use),
-        **{name: found.counts[name] for name in ("abandoned", "fetched", "returned")},
+        "abandoned": bound(">=", found.abandoned) if found.unclear else found.abandoned,
+        "fetched": found.fetched,
+        "returned": found.returned,
     }
 
 
@@ -185,10 +186,10 @@ def fronts_of(data):
     """The marks of an input, each with the input up to it, and None with all of it. In a trace a mark stands in a
     section; the later ones are empty then. So it is for inputs whose order is that of their lines."""
     lines = data.split(b"\n")
-    places = [at for at, line in enumerate(lines) if line.startswith(MARK)]
+    places = [at for at, line in enumerate(lines) if mark_in(line) is not None]
     for at in places:
         front = b"\n".join([*lines[:at], *closed(lines[at:], lines), b""])
-        yield lines[at][len(MARK) :].decode("latin-1").strip(), front
+        yield mark_in(lines[at]), front
     yield None, data
 
 
@@ -220,33 +221,78 @@ def empty_row(flags, file):
     return {"list": flags.name, "flags": " ".join(flags.words), "trace": file}
 
 
-def columns_of(program, words, trace, text, seconds):
-    """The columns of a trace that was run, or of one type of several."""
-    trace.sections += [[] for _ in text.logs[len(trace.sections) :] if trace.sections]
-    found = replay(program, words, trace, text, seconds) if trace.has_one_order() else None
+def columns_of(words, trace, text, figures):
+    """The columns of a trace that was run, or of one type of several, with the figures of its replay, if there are
+    some."""
     settings = Settings.of(words, trace.letter)
-    of_time = replayed(found) if found else bounded(trace, text, settings.migrates)
+    of_time = replayed(figures) if figures else bounded(trace, text, settings.migrates)
     rules = NO_RULES if trace.rules == "" else trace.rules
     ran = {"type": trace.letter, "ran": settings.ran(), "rules": rules}
     return {**ran, **counted(trace, text), **of_time, "mb_most": megabytes(of_time.get("units_most"))}
 
 
-def rows_of_input(program, flags, row, data, seconds):
-    """The lines of the table for one input, one for each of its types."""
+def columns_at(moment, words, trace, text):
+    """The same of what was there at a moment."""
+    sections, logs = ([it[:count] for it, count in zip(all_of, moment.done)] for all_of in (trace.sections, text.logs))
+    then = Text(logs=logs, carriers=moment.carriers, total=moment.total)
+    return columns_of(words, replace(trace, sections=sections), then, moment.figures)
+
+
+def parts_of(output, data):
+    """The trace of each type of an input, and its text."""
+    texts, traces = read_texts(output), read_traces(data)
+    if len(texts) != len(traces):
+        raise ValueError(f"it has {len(texts)} types in place of {len(traces)}")
+    for trace, text in zip(traces, texts):
+        trace.sections += [[] for _ in text.logs[len(trace.sections) :] if trace.sections]
+    return [*zip(traces, texts)]
+
+
+def columns_at_end(program, words, trace, text, seconds):
+    found = replay(program, words, trace, text, seconds) if trace.has_one_order() else None
+    return columns_of(words, trace, text, found and found.figures)
+
+
+def columns_at_marks(program, words, parts, marks, seconds):
+    """The columns at each mark of a run, and at its end; none where what was there is not known."""
+    [(trace, text), *others] = parts
+    if others or trace.stops or not trace.has_one_order():
+        return
+    found = replay(program, words, trace, text, seconds, [place for _, place in marks])
+    for (name, _), moment in zip(marks, found.moments if found else []):
+        yield {"mark": name, **columns_at(moment, words, trace, text)}
+    if found:
+        yield {"mark": WHOLE, **columns_of(words, trace, text, found.figures)}
+
+
+def rows_of_input(program, flags, row, data, seconds, marks=None):
+    """The lines of the table for one input: one for each of its types, or one for each of these marks and the end. With
+    marks there are none where they cannot be had of one run."""
     row["status"], output, said, wall = run_program(program, flags.words, data, seconds)
     row["said"] = said or None
     row["seconds"] = wall and round(wall, DECIMALS["seconds"])
     if row["status"] != 0:
-        return [row]
+        return [row] if marks is None else []
     try:
-        texts, traces = read_texts(output), read_traces(data)
-        if len(texts) != len(traces):
-            raise ValueError(f"it has {len(texts)} types in place of {len(traces)}")
-        return [{**row, **columns_of(program, flags.words, *it, seconds)} for it in zip(traces, texts)]
+        parts = parts_of(output, data)
+        if marks is not None:
+            return [{**row, **it} for it in columns_at_marks(program, flags.words, parts, marks, seconds)]
+        return [{**row, **columns_at_end(program, flags.words, *it, seconds)} for it in parts]
     except Ended as ended:
-        return [{**row, "said": str(ended)}]
+        row["said"] = str(ended)
     except (ValueError, LookupError, TypeError) as error:
-        return [{**row, "said": f"the text is not understood: {error}"}]
+        row["said"] = f"the text is not understood: {error}"
+    return [row] if marks is None else []
+
+
+def rows_of_fronts(program, flags, file, data, seconds):
+    """The lines of the table for each mark of an input, of a run up to there, and for all of it."""
+    rows = []
+    for mark, front in fronts_of(data):
+        row = {**empty_row(flags, file), "mark": mark or WHOLE}
+        if mark != WHOLE:
+            rows += rows_of_input(program, flags, row, front, seconds)
+    return rows
 
 
 def words_for(flags, data, options):
@@ -263,9 +309,5 @@ def rows_of_run(program, flags, file, options):
     flags = replace(flags, words=words_for(flags, data, options))
     if not options.marks:
         return rows_of_input(program, flags, empty_row(flags, file), data, options.seconds)
-    rows = []
-    for mark, front in fronts_of(data):
-        row = {**empty_row(flags, file), "mark": mark or WHOLE}
-        if mark != WHOLE:
-            rows += rows_of_input(program, flags, row, front, options.seconds)
-    return rows
+    rows = rows_of_input(program, flags, empty_row(flags, file), data, options.seconds, marks_of(data))
+    return rows or rows_of_fronts(program, flags, file, data, options.seconds)

@@ -81,6 +81,41 @@ def need_of(size):
     return max(SMALLEST_BLOCK, units + units % 2)
 
 
+# Marks
+
+MARK, WHOLE = b"# mark ", "end"
+OPERATIONS = (b"alloc", b"free", b"realloc", b"give", b"take", b"info", b"idle")
+
+
+def mark_in(line):
+    """The name of a mark, or None where the line is none."""
+    return line[len(MARK) :].decode("latin-1").strip() if line.startswith(MARK) else None
+
+
+def marks_of(data):
+    """The marks of an input but `end`, each with how many operations come before it."""
+    count, marks = 0, []
+    for line in data.split(b"\n"):
+        name = mark_in(line)
+        if name not in (None, WHOLE):
+            marks.append((name, count))
+        words = line.split(None, 1)[:1]
+        count += bool(words) and (words[0].isdigit() or words[0] in OPERATIONS)
+    return marks
+
+
+def front_at(data, count):
+    """Recorded operations up to so many of them."""
+    kept = []
+    for line in data.split(b"\n"):
+        words = line.split(None, 1)[:1]
+        count -= bool(words) and words[0].isdigit()
+        if count < 0 or words == [b"end"]:
+            break
+        kept.append(line)
+    return b"\n".join([*kept, b"end", b""])
+
+
 # Traces and texts
 
 
@@ -96,15 +131,22 @@ class Trace:
     stops: dict
     has_turns: bool
     is_threaded: bool
-    # Of recorded operations the rules of a node by which they run: the empty text where they name none.
+    # Of recorded operations the rules of a node by which they run, the empty text where they name none, and the
+    # scheduler of each line.
     rules: str = None
-    # Of recorded operations the scheduler of each, in their order.
     order: list = None
 
     def has_one_order(self):
-        """Whether each scheduler does all of its operations before the next one begins, or one alone has any."""
-        is_one = len(self.sections) == 1 or sum(map(bool, self.sections)) == 1
+        """Whether operations come in the order of their lines, each scheduler does all of its own before the next one
+        begins, or one alone has any."""
+        is_one = len(self.sections) == 1 or sum(map(bool, self.sections)) == 1 or self.order is not None
         return is_one or bool(self.sections) and not self.has_turns and not self.is_threaded
+
+    def steps(self):
+        """The scheduler of each operation, where they have one order."""
+        return self.order if self.order is not None else [
+            me for me, section in enumerate(self.sections, 1) for _ in section
+        ]
 
 
 @dataclass
@@ -151,10 +193,10 @@ def read_recorded(lines):
     has none has an empty section, and so have those that only the flags know, of which nothing is asked."""
     sections, order = {}, []
     for line in lines[1:]:
-        me, _, operation = line.strip().partition(b" ")
+        me, *operation = line.split(None, 1)
         if me.isdigit():
-            sections.setdefault(int(me), []).append(operation.strip())
             order.append(int(me))
+            sections.setdefault(int(me), []).append(operation[0].strip())
     count = max(sections, default=1)
     parts = [sections.get(it, []) for it in range(1, count + 1)]
     return Trace(lines[0].split()[1].decode(), parts, {}, True, False, rules_of(lines), order)

@@ -6,8 +6,10 @@ of a trace; nothing is taken from the tool. The last line is 'N passed, M failed
 """
 import csv
 import io
+import itertools
 import json
 import os
+import random
 import re
 import shlex
 import shutil
@@ -566,9 +568,59 @@ class Compare(unittest.TestCase):
     def test_recorded_operations(self):
         """Two schedulers: the second one's free goes to the queue of the first, whose next operation releases it."""
         lines = ["type H", "1 alloc 1 1000", "2 alloc 2 100", "1 give 1 2", "2 take 1 1", "2 free 1", "# mark given",
-                 "1 idle", "end", ""]
+                 "1 idle", "# mark over", "end", ""]
         rows = self.recorded("\n".join(lines), "--marks", "--all", "+S 2", *KEPT_APART)
-        self.assertEqual([(it["mark"], it["carriers_end"], it["queued"]) for it in rows], [("given", 1, 0), ("end", 1, 0)])
+        self.assertEqual([(it["mark"], it["carriers_end"], it["queued"]) for it in rows],
+                         [("given", 2, 126), ("over", 1, 0), ("end", 1, 0)])
+
+    def test_recorded_operations_of_several_schedulers_are_exact(self):
+        """A carrier of 74 pages each. The first one's block waits in the queue while the second is there, and goes
+        before the third comes."""
+        lines = ["type H", "1 alloc 1 300000", "1 give 1 2", "2 take 1 1", "2 free 1", "2 alloc 2 300000",
+                 "1 alloc 3 300000", "1 free 3", "end", ""]
+        [row] = self.recorded("\n".join(lines), *KEPT_APART, "--each", "+MHsbct 1")
+        self.assertRow(row, carriers_most=2, units_most=2 * 74 * 512, mb_most=0.6, units_end=74 * 512, abandoned=0)
+
+    def test_recorded_carriers_are_abandoned_fetched_and_returned(self):
+        """As in 'returned' above; here the owner has an operation left, and deallocates what came back."""
+        lines = ["type H", "1 alloc 1 1000", "1 alloc 2 3000", "1 free 2", "2 alloc 3 1000", "1 give 1 2", "2 take 1 1",
+                 "2 free 1", "2 free 3", "# mark sent", "1 idle", "end", ""]
+        rows = self.recorded("\n".join(lines), "--marks", "--each", "+MHsmbcs 4", "--each", "+MHlmbcs 4")
+        for row, count in zip(rows, (1, 0)):
+            self.assertRow(row, abandoned=2, fetched=1, returned=1, carriers_most=1, carriers_end=count)
+
+    def test_which_carriers_were_abandoned_is_told_by_their_figures(self):
+        """Scheduler 2 frees a block of each of two carriers of one page. When scheduler 1 takes its queue, the one with
+        254 of 512 units is abandoned, and that with 378 is not."""
+        lines = ["type H", "1 alloc 1 1000", "1 alloc 2 1000", "1 alloc 3 2000", "1 alloc 4 1000", "1 alloc 5 1000",
+                 "1 alloc 6 1000", "1 alloc 7 1000"]
+        for name in 7, 3:
+            lines += [f"1 give {name} 2", f"2 take {name} 1", f"2 free {name}"]
+        lines += ["1 idle", "# mark taken", "2 alloc 8 2000", "end", ""]
+        pages = ["--each", "+MHsmbcs 4", "--each", "+MHlmbcs 4", "--each", "+MHacul 65"]
+        row, last = self.recorded("\n".join(lines), "--marks", *pages)
+        self.assertRow(row, abandoned=1, fetched=0, utilisation_each="73.8/-", gap_kb=1)
+        self.assertRow(last, abandoned=1, fetched=1, carriers_end=2, carriers_most=2)
+
+    def test_a_moment_is_what_a_run_up_to_there_ends_with_where_no_queue_has_a_block(self):
+        pick, lines, mine, names = random.Random(1), ["type H"], {1: [], 2: [], 3: []}, itertools.count(1)
+        for at in range(12):
+            for _ in range(15):
+                me, you = pick.sample(range(1, 4), 2)
+                if mine[me] and pick.random() < 0.4:
+                    name = mine[me].pop(pick.randrange(len(mine[me])))
+                    lines += [f"{me} give {name} {you}", f"{you} take {name} 1", f"{you} free {name}"]
+                else:
+                    mine[me].append(next(names))
+                    lines.append(f"{me} alloc {mine[me][-1]} {pick.choice((100, 1000, 4000, 20000))}")
+            lines += ["1 info", "2 info", "3 info", "1 info", "2 info", "3 info", f"# mark {at}"]
+        flags = ["--each", "+MHsmbcs 64", "--each", "+MHlmbcs 64", "--each", "+MHsbct 16", "--each", "+MHacul 80"]
+        rows = self.recorded("\n".join([*lines, "end", ""]), "--marks", *flags)[:-1]
+        places = [at for at, it in enumerate(lines) if it[0] == "#"]
+        files = [self.file(f"{at}.input", "\n".join([*lines[:at], "end", ""])) for at in places]
+        self.assertGreater(rows[-1]["fetched"], 0)
+        for row, front in zip(rows, self.rows(*files, *flags)):
+            self.assertRow(row, **{it: front[it] for it in front.keys() - {"trace", "mark", "seconds"}})
 
     def test_recorded_operations_of_one_scheduler_are_exact(self):
         lines = ["type H", "1 alloc 1 300000", "1 free 1", "1 alloc 2 100", "end", ""]

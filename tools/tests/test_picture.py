@@ -868,9 +868,39 @@ class Histograms(Case):
         trace = self.write("a.trace", "type H\nscheduler 1\nthreads\nend\n")
         self.refused(f"{trace}: schedule wanted", "--trace", trace, "--histograms", self.path("a.svg"))
 
+    def test_recorded_operations_have_those_of_their_trace(self):
+        """With one scheduler: blocks of several sizes, gaps beside them, and a singleblock carrier with a tail."""
+        lines = [*(f"alloc {it} {40 * it}" for it in range(1, 30)), "alloc 30 700000", *(f"free {it}" for it in range(3, 28, 4))]
+        self.draw("--trace", self.trace(*lines), "--histograms", self.path("a.svg"))
+        trace = self.write("a.trace", "\n".join(["type H", *(f"1 {it}" for it in lines), "# mark over", "1 free 1", "end", ""]))
+        self.draw("--trace", trace, "--histograms", self.path("b.svg"), "--at", "over")
+        wanted, found = (re.findall("<title>.*?</title>", self.read(it)) for it in ("a.svg", "b.svg"))
+        self.assertEqual(found, wanted)
+        self.assertIn(f"sizes of blocks and gaps after {len(lines)} operations", self.read("b.svg"))
+        self.draw("--trace", trace, "--histograms", self.path("b.svg"))
+        self.assertNotEqual(re.findall("<title>.*?</title>", self.read("b.svg")), wanted)
+
+    def test_recorded_operations_of_several_schedulers(self):
+        """Scheduler 2 frees block 1 of 126 units; at the mark it waits, and the end of the run up to there releases it."""
+        lines = ["type H", "1 alloc 1 1000", "1 alloc 2 100", "1 give 1 2", "2 take 1 1", "2 free 1", "# mark freed",
+                 "1 alloc 3 4000", "end", ""]
+        words = "--trace", self.write("a.input", "\n".join(lines)), "--histograms", self.path("a.svg")
+        self.draw(*words, "--at", "freed", "--", "+MHacul", "0")
+        bars = re.findall(r'class="(blocks|gaps)"[^>]*><title>(.*?)</title>', self.read("a.svg"))
+        self.assertEqual(bars[: len(bars) // 2], [
+            ("blocks", "1 block of fewer than 16 units"), ("gaps", "1 gap of 64 to 127 units"),
+            ("gaps", "1 gap of 16384 to 32767 units")])
+        self.refused(f"{words[1]}: there is no mark x", *words, "--at", "x",
+                     expected="a number, or of recorded operations freed or end")
+
+    def test_a_moment_of_a_trace_has_no_histograms(self):
+        trace = self.trace("alloc 1 100")
+        said = f"{trace}: --at is a moment of --histograms for recorded operations alone"
+        self.refused(said, "--trace", trace, "--histograms", self.path("a.svg"), "--at", "1")
+
     def test_an_input_that_is_no_trace(self):
         for text, command in (("types H B\nscheduler 1\nschedule\nend\n", "types"),
-                              ("type H\n1 alloc 1 8\nend\n", "recorded"), ("super\nscheduler 1\nend\n", "super")):
+                              ("super\nscheduler 1\nend\n", "super")):
             trace = self.write("a.trace", text)
             said = f"{trace}: --histograms draws those of a trace, and this is an input of `{command}`"
             self.refused(said, "--trace", trace, "--histograms", self.path("a.svg"))

@@ -75,9 +75,10 @@ class Case(unittest.TestCase):
         return ran.stdout if status == 0 else ran.stderr
 
     def made(self, *events, more=()):
-        """The operations that are made of these events of B."""
+        """The operations that are made of these events of B, without the `info` lines of marks."""
         path = self.write("a.record", HEAD + "".join(f"{it}\n" for it in events))
-        return operations(self.load("--recorded", path, "--type", "B", "--rules", "none", *more))
+        lines = operations(self.load("--recorded", path, "--type", "B", "--rules", "none", *more))
+        return [it for it in lines if not it.endswith(" info")]
 
 
 class Events(Case):
@@ -127,14 +128,46 @@ class Events(Case):
         lines = self.made("alloc B 1 a0 100", "realloc B 1 a0 200", "to B 1 a0", more=("--more", "8"))
         self.assertEqual(lines[1:-1], ["1 alloc 1 108", "1 realloc 1 2 208"])
 
+    def with_marks(self, head, *events, more=()):
+        """The operations and marks that are made of these events."""
+        path = self.write("a.record", head + "".join(f"{it}\n" for it in events))
+        text = self.load("--recorded", path, "--type", "B", "--rules", "none", *more)
+        return [it for it in text.splitlines() if it[0] != "#" or it.startswith("# mark ")][1:-1]
+
     def test_marks(self):
-        path = self.write("a.record", HEAD + "".join(f"alloc B 1 a{it} 8\n" for it in range(5)))
-        text = self.load("--recorded", path, "--type", "B")
-        lines = [it for it in text.splitlines() if it[0] != "#" or it.startswith("# mark ")]
-        self.assertEqual(lines[2:8], ["# mark begin", "1 alloc 1 8", "1 alloc 2 8", "1 alloc 3 8", "# mark middle",
-                                      "1 alloc 4 8"])
+        """Before each mark each scheduler has an `info`, but where nothing was since the one before."""
+        head, infos = HEAD.replace("mark 3 middle", "mark 0 peak\nmark 3 middle"), ["1 info", "2 info"]
+        lines = self.with_marks(head, *(f"alloc B 1 a{it} 8" for it in range(5)))
+        self.assertEqual(lines, ["# mark begin", "# mark peak", "1 alloc 1 8", "1 alloc 2 8", "1 alloc 3 8", *infos,
+                                 "# mark middle", "1 alloc 4 8", "1 alloc 5 8", *infos, "# mark end"])
+        path = f"{self.room}/a.record"
         lines = operations(self.load("--recorded", path, "--type", "B", "--until", "middle"))
-        self.assertEqual(len(lines), 6)
+        self.assertEqual(lines[2:], ["1 alloc 1 8", "1 alloc 2 8", "1 alloc 3 8", *infos, "end"])
+        self.assertEqual(self.with_marks(head, *(["alloc B 1 a0 8"] * 5), more=("--as", "trace"))[-2:],
+                         ["schedule", "1*9"])
+
+    def test_peak_and_valley_are_marks_of_themselves(self):
+        """The most bytes, and then the least after that, of all events: here of other threads and types, too."""
+        events = ["alloc B 1 a0 500", "alloc B 2 b0 400", "free B 1 a0", "alloc B 1 c0 300", "alloc B 3 d0 9000",
+                  "realloc B 2 b0 700", "to B 2 e0", "alloc H 1 f0 9000", "free B 1 c0", "alloc B 1 c0 10", "free B 2 e0",
+                  "alloc B 1 b0 20"]
+        infos = ["1 info", "2 info"]
+        lines = self.with_marks(HEAD, *events)
+        at = lines.index("# mark peak")
+        self.assertEqual(lines[at - 3 : at + 2], ["2 realloc 2 4 700", *infos, "# mark peak", "1 free 3"])
+        at = lines.index("# mark valley")
+        self.assertEqual(lines[at - 3 : at + 2], ["2 free 4", *infos, "# mark valley", "1 alloc 6 20"])
+        said = "# Mark peak is where there are the most bytes in blocks, 1000; mark valley is where there are the least"
+        self.assertIn(f"{said} after that, 10.\n", self.load("--recorded", f"{self.room}/a.record", "--type", "B"))
+
+    def test_a_peak_without_a_valley_and_none_where_there_are_such_marks(self):
+        growing = ["alloc B 1 a0 500", "alloc B 2 b0 400"]
+        for head, events, wanted in ((HEAD, growing, ["begin", "peak", "end"]), (HEAD, [], ["begin", "end"]),
+                                     (HEAD.replace("middle", "valley-1"), [*growing, "free B 1 a0", "free B 2 b0"],
+                                      ["begin", "peak", "valley-1", "end"])):
+            head = head.replace("mark 3 middle", "mark 0 middle")
+            marks = [it.split()[2] for it in self.with_marks(head, *events) if it[0] == "#"]
+            self.assertEqual([it for it in marks if it != "middle"], wanted)
 
     def test_the_rules_are_those_of_the_node(self):
         """All without a super carrier, and all but falling with one; others and none if that is asked for."""
@@ -150,7 +183,7 @@ class Events(Case):
             path = self.write("a.record", HEAD.replace("super 0", f"super {megabytes}") + "alloc B 1 a0 8\n")
             text = self.load("--recorded", path, "--type", "B", *words)
             line = [rules.replace("the ", "")] if rules.startswith("the") else []
-            self.assertEqual(operations(text), ["type B", *line, "1 alloc 1 8", "end"])
+            self.assertEqual(operations(text)[: len(line) + 2], ["type B", *line, "1 alloc 1 8"])
             self.assertIn(f"\n# It runs by {rules}; {has}\n", text)
 
     def test_a_trace_has_no_rules(self):
@@ -174,7 +207,7 @@ class Events(Case):
         lines = operations(text)
         self.assertLessEqual(len(lines) - 3, 1048576)
         self.assertLessEqual(len(text), 2**24)
-        self.assertEqual(lines[-2].split()[:2], ["2", "free"])
+        self.assertIn(lines[-2].split()[1], ("alloc", "free"))
         self.assertIn("# CUT: ", text)
 
     def test_a_trace_is_cut_where_its_takes_would_try_too_often(self):
@@ -241,6 +274,13 @@ class Events(Case):
         lines = self.made("alloc B 1 a0 100", "alloc B 2 c0 50", "free B 2 a0", more=("--as", "trace"))
         self.assertEqual(lines, ["type B", "scheduler 1", "alloc 1 100", "give 1 2", "scheduler 2", "alloc 2 50",
                                  "take 1 1000", "free 1", "schedule", "1*1 2*1 1*2 2*3", "end"])
+
+    def test_the_super_carrier_holds_twice_what_a_scheduler_had(self):
+        """No mark has figures of the peak of 5000000 bytes, of which twice as many for each scheduler are 20 MB."""
+        path = self.write("a.record", HEAD)
+        self.assertIn(": +S 2 +MMscs 4 ", self.load("--recorded", path, "--type", "B"))
+        path = self.write("a.record", HEAD + "alloc B 1 a0 3000000\nalloc B 1 b0 2000000\nfree B 2 a0\nalloc B 2 c0 4000000\n")
+        self.assertIn(": +S 2 +MMscs 32 ", self.load("--recorded", path, "--type", "B"))
 
     def test_the_stored_recording(self):
         """examples/shop.record, of a node whose four schedulers all allocate, gives the input and the flags there."""
@@ -347,6 +387,30 @@ class Node(Case):
         table = self.load("--recorded", path, "--type", "B", "--until", "full", "--beside", text)
         node, run = map(int, re.search(r"^bytes in blocks +([0-9]+) +([0-9]+)$", table, re.M).groups())
         self.assertLess(abs(node - run), node // 10)
+
+    def test_a_load_that_ends_its_node(self):
+        """By halt, or by a signal as a crash does: all but the figures at the end is kept, also marks."""
+        for end in "halt()", 'os:cmd("kill -9 " ++ os:getpid()), timer:sleep(9000)':
+            path = f"{self.room}/a.record"
+            said = self.record("--start", "+S 2", "B", path, "--eval", self.LOAD.replace("timer:sleep(100)", end))
+            self.assertIn(f"record: {path}: the node has ended: what it had noted is kept", said)
+            text = text_of(path)
+            sizes = [int(it) for it in re.findall(r"^alloc B [0-9]+ [0-9a-f]+ ([0-9]+)$", text, re.M)]
+            for wanted in range(5001, 5301):
+                self.assertTrue(any(wanted <= it <= wanted + 64 for it in sizes), wanted)
+            self.assertRegex(text, r"(?s)mark 0 begin\ninstance .*\nmark [0-9]+ full\ninstance .*\nmark [0-9]+ end\nthread ")
+            events = text.partition("\nevents\n")[2].splitlines()
+            self.assertEqual(re.findall(r"^mark ([0-9]+) end$", text, re.M), [str(len(events))])
+            self.assertIn("# mark full\n", self.load("--recorded", path))
+            said = f"load: {path}: mark end has no figures of B: the node had ended\n"
+            self.assertEqual(self.load("--recorded", path, "--beside", path, status=1), said)
+            os.remove(path)
+
+    def test_a_load_that_fails_leaves_the_node(self):
+        path = f"{self.room}/a.record"
+        said = self.record("--start", "+S 1", "B", path, "--eval", "exit(bad).")
+        self.assertIn(f"record: {path}: the load failed, ", said)
+        self.assertIn("\ninstance B ", text_of(path).rpartition(" end\n")[2])
 
     def test_full_memory_ends_it(self):
         path = f"{self.room}/a.record"
