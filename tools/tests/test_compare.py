@@ -1076,7 +1076,7 @@ class Compare(unittest.TestCase):
 
     def test_the_process_of_a_run_that_is_killed(self):
         """Its line says so, and the others have theirs."""
-        ran = self.begin("--each", "+MHas bf gf", "--as", "json", "--columns", "list,status,said")
+        ran = self.begin("--jobs", "1", "--each", "+MHas bf gf", "--as", "json", "--columns", "list,status,said")
         for it in filter(str.isdigit, os.listdir("/proc")):
             try:
                 with open(f"/proc/{it}/stat", encoding="utf-8") as file:
