@@ -171,10 +171,10 @@ def letters_of(words):
 
 
 def peak_and_valley(samples, letter):
-    """The megabytes of the carriers of the schedulers' instances when there were most, and after that when there were
-    the fewest bytes in blocks, where that was not the last time."""
+    """The figures of an allocator when its schedulers' instances had most carriers, and after that when they had the
+    fewest bytes in blocks, where that was not the last time."""
     mine = [it.figures[letter] for it in samples]
     peak = max(range(len(mine)), key=lambda it: (mine[it].carriers, mine[it].blocks))
     later = mine[peak + 1 : -1] or mine[peak + 1 :]
     valley = min(later, key=lambda it: (it.blocks, it.carriers), default=None)
-    return tuple(it.carriers / MEGABYTE for it in (mine[peak], valley) if it)
+    return [mine[peak], *([valley] if valley else [])]

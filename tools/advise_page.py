@@ -8,7 +8,7 @@ import sys
 from advise_node import NAMES
 from advise_runs import words_of
 from advise_table import advice_on, cells_of, limits_of, notes_on, own_values, to_paste, told_of_check
-from files import read_file, write_file
+from files import read_file
 
 HERE = os.path.dirname(os.path.realpath(__file__))
 # Of the drawing of curves, in points of the screen.
@@ -128,7 +128,8 @@ def axes(node, end, step, place, named):
         if all(abs(x - it) > 60 for it in taken) or name in named:
             taken.append(x)
             words = f"{name} ({named[name]})" if name in named and named[name] != name else name
-            yield f'<text x="{x:.1f}" y="{HEIGHT - BOTTOM + 16}" text-anchor="middle">{escaped(words)}</text>'
+            anchor = "end" if x > WIDTH - 100 else "middle"
+            yield f'<text x="{x:.1f}" y="{HEIGHT - BOTTOM + 16}" text-anchor="{anchor}">{escaped(words)}</text>'
 
 
 def legend(names):
@@ -161,9 +162,8 @@ def drawn_carriers(table, program, folder):
 
 def image_of(case, words, program, path):
     """The drawing of tools/picture, or None where it takes too long or is too large."""
-    write_file(f"{path}.flags", " ".join(words).encode())
-    command = [sys.executable, "-B", f"{HERE}/picture", "--trace", case.input, "--svg", f"{path}.svg", "--flags",
-               f"{path}.flags", "--program", program]
+    command = [sys.executable, "-B", f"{HERE}/picture", "--trace", case.input, "--svg", f"{path}.svg", "--program", program,
+               "--", *words]
     try:
         ran = subprocess.run(command, capture_output=True, timeout=MOST_SECONDS, check=False)
     except subprocess.TimeoutExpired:

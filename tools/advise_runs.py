@@ -10,7 +10,7 @@ from concurrent.futures.process import BrokenProcessPool
 from dataclasses import dataclass, field
 from types import SimpleNamespace
 
-from flags import NOT_MIGRATING, Settings
+from flags import NOT_MIGRATING, WITHOUT_MIGRATION, Settings
 from program import ENDED, end_runs
 from rows import WHOLE, read_input, rows_of_run, run_program
 from texts import carrier_of, is_placed, read_text
@@ -18,6 +18,8 @@ from texts import carrier_of, is_placed, read_text
 BYTES_OF_A_UNIT = 8
 MEGABYTE = 2**20
 CONTEXT = multiprocessing.get_context("fork")
+# Whether runs that have not begun are left out.
+IS_STOPPED = CONTEXT.Event()
 # The values that are tried of a parameter: so many of these below the node's own, and one above it.
 LADDERS = {
     "sbct": (16, 32, 64, 128, 256, 512, 1024, 2048, 4096),
@@ -96,6 +98,8 @@ def single_changes(flags, letter):
     comes with acul 0, so that a node and the program take both alike."""
     own = Settings.of(flags, letter)
     made = [((name, value),) for name in ("sbct", "lmbcs", "smbcs") for value in around(int(own.asked(name)), name)]
+    if letter == WITHOUT_MIGRATION:
+        return made
     for it in STRATEGIES:
         stays = () if own.migrates and it not in NOT_MIGRATING else (("acul", NO_MIGRATION),)
         if it != own.strategy:
@@ -257,12 +261,13 @@ class Bench:
         results = [None] * len(tasks)
         if not tasks or self.left <= 1 or self.is_interrupted:
             return results
-        numbers = CONTEXT.SimpleQueue()
+        numbers, places = CONTEXT.SimpleQueue(), {}
+        IS_STOPPED.clear()
         with ProcessPoolExecutor(self.jobs, mp_context=CONTEXT, initializer=begin_process, initargs=(numbers,)) as pool:
-            places = {pool.submit(timed, self.end, *task): at for at, task in enumerate(tasks)}
             try:
-                for done, future in enumerate(as_completed(places, timeout=self.left + 1), 1):
-                    results[places[future]] = value_of(future)
+                for at, task in enumerate(tasks):
+                    places[pool.submit(timed, self.end, *task)] = at
+                for done, _ in enumerate(as_completed(places, timeout=self.left + 1), 1):
                     progress(title, done, len(tasks))
             except TimeoutError:
                 stop(pool, numbers)
@@ -270,14 +275,14 @@ class Bench:
                 self.is_interrupted = True
                 stop(pool, numbers)
             progress(title, None, len(tasks))
-            for future, at in places.items():
-                results[at] = results[at] or value_of(future)
+        for future, at in places.items():
+            results[at] = value_of(future)
         return results
 
 
 def timed(end, function, *arguments):
     """What a function returns, or None where the time is over."""
-    return function(*arguments, end) if time.monotonic() < end else None
+    return function(*arguments, end) if time.monotonic() < end and not IS_STOPPED.is_set() else None
 
 
 def value_of(future):
@@ -292,6 +297,7 @@ def value_of(future):
 
 def stop(pool, numbers):
     """Ends all runs."""
+    IS_STOPPED.set()
     pool.shutdown(wait=False, cancel_futures=True)
     while not numbers.empty():
         os.kill(numbers.get(), signal.SIGTERM)

@@ -13,7 +13,10 @@ BY = ("peak", "valley", "both")
 LEAST_APART, STRATEGIES_APART = 1.0, 10.0
 # How much of the node's blocks a recording may lack before that is named, in percent.
 LACKING = 3.0
-MOST_ADVISED = 3
+# Below so many megabytes there was no load.
+LEAST_LOAD = 1
+# How much the blocks of a node's two runs may differ before that is named, in percent.
+SAME_LOAD = 5.0
 
 
 def percent_off(run, node):
@@ -65,6 +68,9 @@ def reasons(check):
     if check.result.failed:
         yield (f"  {check.result.failed} allocations of the replay found no place: a run has 512 MB at most, and each"
                " scheduler its part of them. Record a smaller load.")
+    if case.node(case.peak)[1] < LEAST_LOAD:
+        yield f"  The load hardly used it: less than {LEAST_LOAD} MB were in blocks while this recorded."
+        return
     for name, *_ in check.moments:
         node, run = case.node(name)[1], check.result.at[name]["utilisation_end"] * check.result.megabytes(name) / 100
         if percent_off(run, node) < -LACKING:
@@ -83,7 +89,7 @@ def reasons(check):
 # ---------------------------------------------------------------------------------------------------------------------
 
 
-@dataclass
+@dataclass(eq=False)
 class Line:
     """A list of flags in the table: its trial, and the middle over the recordings of what came of it."""
 
@@ -100,8 +106,9 @@ class Line:
     singles: int
     failed: int
     rank: int = 0
-    # What a node had under it, if it was tried there.
+    # What a node had under it, if it was tried there: megabytes of carriers, and of blocks at the peak.
     node: tuple = None
+    node_blocks: float = None
 
     @property
     def score(self):
@@ -162,28 +169,28 @@ class Table:
         return max(it.worst for it in self.checks)
 
     def rank_all(self):
-        """Lists of one rank are equal to its first one."""
-        first, rank = None, 0
+        """Lists of one rank are equal to its first one, and those that failed come last."""
+        left, rank = [it for it in self.lines if not it.failed], 0
+        while left:
+            rank += 1
+            first = left[0]
+            for it in left:
+                it.rank = rank if self.are_equal(it, first) else 0
+            left = [it for it in left if not it.rank]
         for it in self.lines:
-            if first is None or it.failed or not self.are_equal(it, first):
-                first, rank = it, rank + 1
-            it.rank = rank
+            it.rank = it.rank or rank + 1
+        self.lines.sort(key=lambda it: it.rank)
 
     def best(self):
         """The lists that are worth a trial, the one to take first: of the first rank the node's own if it is there, else
-        those of fewest changes, whose effect is known best."""
+        those whose effect is known best, of fewest changes."""
         equal = [it for it in self.lines if it.rank == 1 and not it.failed]
         own = [it for it in equal if it is self.own]
-        return own or sorted(equal, key=lambda it: (is_unsure(it), changes_of(it), it.singles > 2 * self.own.singles + 64,
-                                                    it.score))
+        return own or sorted(equal, key=lambda it: (bool(strategy_of(it)), changes_of(it), it.score))
 
 
 def strategy_of(line):
     return [it for it in line.trial.changes if it[0] in ("as", "acul")]
-
-
-def is_unsure(line):
-    return bool(strategy_of(line))
 
 
 def changes_of(line):
@@ -265,8 +272,10 @@ def how_sure(line, table):
     """What is known of such predictions."""
     if line.node:
         off = max(abs(percent_off(*it)) for it in zip(line.megabytes, line.node) if it[0] is not None)
-        return f"a test node under this list had {'/'.join(f'{it:.1f}' for it in line.node)} MB, {off:.0f} percent off"
-    if is_unsure(line):
+        other = percent_off(line.node_blocks, table.own.node_blocks)
+        had = f"a test node under this list had {'/'.join(f'{it:.1f}' for it in line.node)} MB, {off:.0f} percent off"
+        return f"{had}, with {other:+.0f} percent in blocks at the peak" if abs(other) > SAME_LOAD else had
+    if strategy_of(line):
         return "differences of as and acul are not predicted reliably, so try it on a node (--verify)"
     return "on nodes the savings of sbct and lmbcs were as predicted, single figures up to 30 percent off"
 
