@@ -1,11 +1,12 @@
 """The runs of tools/advise: which lists of flags are tried, and what comes of each on each recording."""
+import contextlib
 import multiprocessing
 import os
 import signal
 import sys
 import time
 from collections import Counter, defaultdict
-from concurrent.futures import ProcessPoolExecutor, as_completed
+from concurrent.futures import FIRST_COMPLETED, ProcessPoolExecutor, wait
 from concurrent.futures.process import BrokenProcessPool
 from dataclasses import dataclass, field
 from types import SimpleNamespace
@@ -18,6 +19,8 @@ from texts import carrier_of, is_placed, read_text
 BYTES_OF_A_UNIT = 8
 MEGABYTE = 2**20
 CONTEXT = multiprocessing.get_context("fork")
+# How many seconds may go by until an interrupt or the end of the time is seen.
+EVERY = 0.2
 # Whether runs that have not begun are left out.
 IS_STOPPED = CONTEXT.Event()
 # The values that are tried of a parameter: so many of these below the node's own, and one above it.
@@ -261,23 +264,35 @@ class Bench:
         results = [None] * len(tasks)
         if not tasks or self.left <= 1 or self.is_interrupted:
             return results
-        numbers, places = CONTEXT.SimpleQueue(), {}
+        numbers = CONTEXT.SimpleQueue()
         IS_STOPPED.clear()
-        with ProcessPoolExecutor(self.jobs, mp_context=CONTEXT, initializer=begin_process, initargs=(numbers,)) as pool:
-            try:
-                for at, task in enumerate(tasks):
-                    places[pool.submit(timed, self.end, *task)] = at
-                for done, _ in enumerate(as_completed(places, timeout=self.left + 1), 1):
-                    progress(title, done, len(tasks))
-            except TimeoutError:
-                stop(pool, numbers)
-            except KeyboardInterrupt:
-                self.is_interrupted = True
+        with (
+            self.noted_interrupts(),
+            ProcessPoolExecutor(self.jobs, mp_context=CONTEXT, initializer=begin_process, initargs=(numbers,)) as pool,
+        ):
+            futures = [pool.submit(timed, self.end, *task) for task in tasks]
+            left = futures
+            while left and self.left > 0 and not self.is_interrupted:
+                left = wait(left, timeout=EVERY, return_when=FIRST_COMPLETED).not_done
+                progress(title, len(tasks) - len(left), len(tasks))
+            if left:
                 stop(pool, numbers)
             progress(title, None, len(tasks))
-        for future, at in places.items():
-            results[at] = value_of(future)
-        return results
+        return [value_of(it) for it in futures]
+
+    @contextlib.contextmanager
+    def noted_interrupts(self):
+        """A signal is noted: an exception could come while a process begins, and be lost there."""
+
+        def note(*_):
+            self.is_interrupted = True
+
+        before = [(it, signal.signal(it, note)) for it in (signal.SIGINT, signal.SIGTERM)]
+        try:
+            yield
+        finally:
+            for it, handler in before:
+                signal.signal(it, handler)
 
 
 def timed(end, function, *arguments):
