@@ -233,7 +233,7 @@ def notes_on(table):
         how = f"within {max(table.error, LEAST_APART):.0f} percent, by which the replay is off"
     yield f"Lists of one rank are equal {how}, and {STRATEGIES_APART:.0f} where as or acul differ. By: {table.by}."
     if table.left_out:
-        said = next((it.said for one in table.left_out for it in one.results if it and it.said), "the time was over")
+        said = next((it.said for one in table.left_out for it in one.results if it and it.said), "the time was over, or it was interrupted")
         yield f"{len(table.left_out)} lists did not run on all recordings: {said}."
 
 
@@ -255,7 +255,9 @@ def advice_on(table):
     """Two sentences: the flags and what they save; and how sure that is."""
     best = table.best()
     name, off = NAMES[table.letter], f"the replay came to {table.error:.0f} percent of the node"
-    if not best:
+    if len(table.lines) == 1:
+        yield f"{name}: no other list was run to its end, so there is no advice."
+    elif not best:
         yield f"{name}: no list ran without failed allocations, so there is no advice."
     elif best[0] is table.own:
         yield f"{name}: keep the node's own flags."
