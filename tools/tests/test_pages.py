@@ -23,7 +23,7 @@ GIVEN = sys.argv.pop(1) if len(sys.argv) > 1 else None
 PAGES = ("README.md", "docs/guide.md")
 SHELL, SHOWN = "sh", "text"
 # How a command begins that is not run here: it needs a node, the network or Rattle's kit, or is a test itself.
-LEFT_OUT = ("tools/record ", "escript ", "git ", "rt ", "./run --prove", "./run --install", "./test", ".ci/run", "tools/check")
+LEFT_OUT = ("tools/record ", "tools/advise ", "escript ", "git ", "rt ", "./run --prove", "./run --install", "./test", ".ci/run", "tools/check")
 BLOCK = re.compile(r"^```(\w*)[^\n]*\n(.*?)^```$", re.MULTILINE | re.DOTALL)
 ANY_LINES = ".."
 # What is a time in a table of tools/compare.
