@@ -11,13 +11,12 @@ def in_order(trace, text):
     """The entries in the order of their operations, each with its scheduler, and where one ends; None if the text does
     not tell it."""
     logs = [*enumerate(text.logs, 1)]
-    ends = [(me, AT_THE_END) for me, _ in logs]
-    if trace.has_one_order():
-        return [(me, entry) for me, log in logs for entry in [*log, AT_THE_END]]
-    if trace.order is None:
+    if not trace.has_one_order():
         return None
+    if trace.order is None:
+        return [(me, entry) for me, log in logs for entry in [*log, AT_THE_END]]
     rests = {me: iter(log) for me, log in logs}
-    return [*((me, next(rests[me], AT_THE_END)) for me in trace.order), *ends]
+    return [*((me, next(rests[me], AT_THE_END)) for me in trace.order), *((me, AT_THE_END) for me, _ in logs)]
 
 
 class Blocks:

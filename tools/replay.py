@@ -38,8 +38,10 @@ class Carrier:
 
 @dataclass
 class Figures:
-    """What there was at most, and how often carriers moved; `unclear` of them may have been abandoned once more."""
+    """What there was at most, how many carriers were created, and how often they moved; `unclear` of them may have been
+    abandoned once more."""
 
+    created: int = 0
     most_carriers: int = 0
     most_units: int = 0
     most_use: tuple = (0, 1)
@@ -91,6 +93,7 @@ class Replay:
                 self.carriers[it.number] = Carrier(it.kind, holder=it.owner, units=it.units)
                 self.count(self.carriers[it.number], 1)
                 self.units += it.units
+                self.figures.created += 1
         self.observe(0, 0)
 
     # What is counted
@@ -137,6 +140,7 @@ class Replay:
         carrier = self.carriers.get(number)
         if carrier is None:
             carrier = self.sized = self.carriers[number] = Carrier(holder=me)
+            self.figures.created += 1
         elif carrier.holder != me or carrier.standing != "employed":
             self.is_wrong |= self.is_known and carrier.standing != "pooled"
             self.figures.fetched += 1

@@ -91,7 +91,6 @@ def counted(trace, text):
         "mb_end": megabytes(total["units"]),
         "utilisation_end": percent(total["live"] + total["queued"], total["units"]),
         **({} if is_generated else {**of_blocks(text), "utilisation_each": utilisation_each(text)}),
-        "created": None if is_generated else created(trace, text),
         "failed": text.generated_failed if is_generated else sum(reasons.values()),
         "failed_space": None if is_generated else reasons["space"],
         "failed_numbers": None if is_generated else reasons["numbers"],
@@ -105,6 +104,7 @@ def counted(trace, text):
 def replayed(found):
     """The columns of a replay."""
     return {
+        "created": found.created,
         "carriers_most": found.most_carriers,
         "units_most": found.most_units,
         "utilisation_most": percent(*found.most_use),
@@ -165,6 +165,7 @@ def bounded(trace, text, migrates):
     if text.logs:
         made["carriers_most"] = most_carriers(text)
         made["units_most"] = None if migrates else most_units(trace, text)
+        made["created"] = created(trace, text)
     return made
 
 
