@@ -7,7 +7,7 @@ from dataclasses import dataclass
 from files import read_file, write_file
 from recording import read_recording
 from refused import demand
-from rows import MARK
+from texts import mark_in
 
 HERE = os.path.dirname(os.path.realpath(__file__))
 MEGABYTE = 2**20
@@ -94,14 +94,14 @@ def moments_of(recording, letter, known):
 
 def marks_in(data):
     """The names of the marks of an input."""
-    return [it[len(MARK) :].decode("latin-1").strip() for it in data.split(b"\n") if it.startswith(MARK)]
+    return [name for name in map(mark_in, data.split(b"\n")) if name is not None]
 
 
 def front_of(data, marks):
     """The input up to the last of these marks, with them alone but for the last, at which it ends."""
     lines = []
     for line in data.split(b"\n"):
-        name = line[len(MARK) :].decode("latin-1").strip() if line.startswith(MARK) else None
+        name = mark_in(line)
         if name == marks[-1]:
             break
         if name is None or name in marks:

@@ -13,7 +13,8 @@ from types import SimpleNamespace
 
 from flags import NOT_MIGRATING, WITHOUT_MIGRATION, Settings
 from program import ENDED, end_runs
-from rows import WHOLE, read_input, rows_of_run, run_program
+from rows import read_input, rows_of_run, run_program
+from texts import WHOLE
 from texts import carrier_of, is_placed, read_text
 
 BYTES_OF_A_UNIT = 8

@@ -24,14 +24,15 @@ def has_super_carrier(rules):
 def notes_on_flags(rows):
     """What has to be said of the flags of the runs that ended well, each once. The flags of a list are for all
     allocators of a node."""
-    letters, is_one = {}, is_of_one_node(rows)
+    letters = {}
     for it in rows:
         if it.get("status") == 0 and it.get("type"):
-            key = "" if is_one else it.get("trace"), it.get("flags") or ""
-            letters.setdefault(key, {})[it["type"]] = True
-    is_several = len({trace for trace, _ in letters}) > 1
+            letters.setdefault((it.get("trace"), it.get("flags") or ""), {})[it["type"]] = True
+    is_one = is_of_one_node(rows)
+    others = sorted({it for those in letters.values() for it in those}) if is_one else ()
+    is_several = not is_one and len({trace for trace, _ in letters}) > 1
     for (trace, flags), those in letters.items():
-        for note in notes_on(flags.split(), [*those]):
+        for note in notes_on(flags.split(), [*those], others):
             yield f"{trace}: {note}." if is_several else f"{note}."
 
 

@@ -252,14 +252,14 @@ def notes_on_letters(words, letters):
         yield f"{listed(others)} flags change nothing here: {why}"
 
 
-def notes_on(words, letters):
+def notes_on(words, letters, others=()):
     """What has to be said of the words of flags for an input of these letters, or for one whose letters are not known:
-    None. Of words that are refused nothing is said."""
+    None. `others` are those of further inputs that the flags are for. Of words that are refused nothing is said."""
     if refusal(words):
         return
     yield from notes_on_strategies(words, EVERY_LETTER if letters is None else letters)
     if letters is not None:
-        yield from notes_on_letters(words, letters)
+        yield from notes_on_letters(words, [*letters, *(it for it in others if it not in letters)])
 
 
 # Inputs

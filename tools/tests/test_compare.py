@@ -401,7 +401,7 @@ class Compare(unittest.TestCase):
         [names, seconds, row], _ = self.table(trace, *KEPT_APART)
         self.assertEqual(names, "list ran mb percent mb percent carriers created failed".split())
         self.assertEqual(seconds, "most most end end end".split())
-        self.assertEqual(row, "+MHacul 0|aoffcbf 0|0.5|100|0.2|100|1|2|0".split("|"))
+        self.assertEqual(row, "+MHacul 0|gf 0|0.5|100|0.2|100|1|2|0".split("|"))
         wide, _ = self.table(trace, *KEPT_APART, "--wide")
         self.assertIn("moved", wide[0])
         self.assertNotIn("percent", wide[0])
@@ -439,7 +439,8 @@ class Compare(unittest.TestCase):
                  "--try", "+MHsbct 1 +MHas bf"]
         rows = self.rows(*words)
         self.assertEqual([(it["list"], it["flags"], it["units_end"]) for it in rows], [
-            ("node.flags", "+MHacul 0", 32768), ("node.flags +MHsbct 1", "+MHacul 0 +MHsbct 1", 512),
+            ("node.flags", "+MHacul 0 +MHas gf", 32768),
+            ("node.flags +MHsbct 1", "+MHacul 0 +MHsbct 1 +MHas gf", 512),
             ("node.flags +MHsbct 1 +MHas bf", "+MHacul 0 +MHsbct 1 +MHas bf", 512)])
         # As text what all share stands below, and the first one is named.
         lines, below = self.table(*words, "--columns", "list")
@@ -1038,8 +1039,7 @@ class Compare(unittest.TestCase):
                         time.sleep(0.02)
                     text, said = self.ended(ran)
                     self.assertEqual(said, self.ENDS(1, 3))
-                    note = "+MHas gf with acul 60 runs as aoffcbf; a node would set acul 0: add +MHacul 0."
-                    below = f"{note}\nInterrupted: 1 of 3 runs had ended.\n"
+                    below = "Interrupted: 1 of 3 runs had ended.\n"
                     self.assertEqual(text, f"list      status\n+MHas gf       0\n\n{below}")
 
     def test_timeout(self):
@@ -1231,8 +1231,9 @@ class Compare(unittest.TestCase):
         names = [it.split()[0] for it in text.partition("\nColumns:\n")[2].partition("\n\n")[0].splitlines()]
         with open(f"{TOP}/docs/reference/tools.md", encoding="utf-8") as source:
             section = source.read().partition("\n## compare\n")[2].partition("\n## ")[0]
-        self.assertEqual([it for it in names if f"`{it}`" not in section], [])
-        self.assertIn("utilisation_most", names)
+        named = re.findall("`([a-z]+)`", section.partition("Most columns")[2].partition("\n\n")[0])
+        self.assertEqual([it for it in named if it not in names and it not in ("acul", "percent")], [])
+        self.assertIn("created", named)
 
     def test_the_examples_of_help(self):
         """Its first table has lists that differ in what ran and in its figures; its commands are lines of shell."""

@@ -157,8 +157,8 @@ class Events(Case):
         self.assertEqual(lines[at - 3 : at + 2], ["2 realloc 2 4 700", *infos, "# mark peak", "1 free 3"])
         at = lines.index("# mark valley")
         self.assertEqual(lines[at - 3 : at + 2], ["2 free 4", *infos, "# mark valley", "1 alloc 6 20"])
-        said = "# Mark peak is where there are the most bytes in blocks, 1000; mark valley is where there are the least"
-        self.assertIn(f"{said} after that, 10.\n", self.load("--recorded", f"{self.room}/a.record", "--type", "B"))
+        said = "# Mark peak is where there are the most bytes in blocks, 1040; mark valley is where there are the least"
+        self.assertIn(f"{said} after that, 48.\n", self.load("--recorded", f"{self.room}/a.record", "--type", "B"))
 
     def test_a_peak_without_a_valley_and_none_where_there_are_such_marks(self):
         growing = ["alloc B 1 a0 500", "alloc B 2 b0 400"]
@@ -275,7 +275,7 @@ class Events(Case):
         self.assertEqual(lines, ["type B", "scheduler 1", "alloc 1 100", "give 1 2", "scheduler 2", "alloc 2 50",
                                  "take 1 1000", "free 1", "schedule", "1*1 2*1 1*2 2*3", "end"])
 
-    def test_the_super_carrier_holds_twice_what_a_scheduler_had(self):
+    def test_the_super_carrier_holds_twice_the_peak_for_each_scheduler(self):
         """No mark has figures of the peak of 5000000 bytes, of which twice as many for each scheduler are 20 MB."""
         path = self.write("a.record", HEAD)
         self.assertIn(": +S 2 +MMscs 4 ", self.load("--recorded", path, "--type", "B"))

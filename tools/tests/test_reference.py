@@ -151,8 +151,11 @@ class Files(unittest.TestCase):
         status, said, lines = self.load("load", "--operations", "9")
         self.assertEqual((status, said, lines[:2], len(lines)), (0, "", ["type B", "scheduler 1"], 13))
         status, said, lines = self.load("record", "--type", "B", "--recorded")
+        # At the peak, at the valley, and at the end.
+        infos = ["1 info", "2 info"]
         self.assertEqual((status, said), (0, ""))
-        self.assertEqual(lines, ["type B", "rules powers falling counter", "1 alloc 1 86", "1 realloc 1 2 538", "1 give 2 2", "2 take 2 1", "2 free 2", "end"])
+        self.assertEqual(lines, ["type B", "rules powers falling counter", "1 alloc 1 86", "1 realloc 1 2 538", *infos,
+                                 "1 give 2 2", "2 take 2 1", "2 free 2", *infos, *infos, "end"])
 
 
 if __name__ == "__main__":
