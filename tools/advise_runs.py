@@ -13,7 +13,7 @@ from types import SimpleNamespace
 
 from flags import NOT_MIGRATING, WITHOUT_MIGRATION, Settings
 from program import ENDED, end_runs
-from rows import read_input, rows_of_run, run_program
+from rows import AS_A_NODE, read_input, rows_of_run, run_program
 from texts import WHOLE
 from texts import carrier_of, is_placed, read_text
 
@@ -207,10 +207,15 @@ def left_of(end):
     return max(end - time.monotonic(), 0.1)
 
 
+def until(end):
+    """How a list is run: its rows at marks, until a moment, as a node reads it."""
+    return SimpleNamespace(marks=True, seconds=left_of(end), reading=AS_A_NODE)
+
+
 def result_of(program, words, case, end):
     """What comes of a list on a recording, or None where the time was over first."""
     made = Result()
-    rows = rows_of_run(program, Flags("", words), case.input, SimpleNamespace(marks=True, seconds=left_of(end)))
+    rows = rows_of_run(program, Flags("", words), case.input, until(end))
     for row in rows:
         said = row.get("said") or ""
         if said.startswith(ENDED):
@@ -230,7 +235,7 @@ def result_of(program, words, case, end):
 
 def curve_of(program, words, case, end):
     """The megabytes of a list at each mark of a recording, by its name; None where the time was over first."""
-    rows = rows_of_run(program, Flags("", words), case.whole, SimpleNamespace(marks=True, seconds=left_of(end)))
+    rows = rows_of_run(program, Flags("", words), case.whole, until(end))
     known = {it["mark"]: it["units_end"] * BYTES_OF_A_UNIT / MEGABYTE for it in rows if it.get("units_end") is not None}
     return known if len(known) == len(rows) else None
 

@@ -233,7 +233,8 @@ def notes_on(table):
         how = f"within {max(table.error, LEAST_APART):.0f} percent, by which the replay is off"
     yield f"Lists of one rank are equal {how}, and {STRATEGIES_APART:.0f} where as or acul differ. By: {table.by}."
     if table.left_out:
-        said = next((it.said for one in table.left_out for it in one.results if it and it.said), "the time was over, or it was interrupted")
+        reasons = (it.said for one in table.left_out for it in one.results if it and it.said)
+        said = next(reasons, "the time was over, or it was interrupted")
         yield f"{len(table.left_out)} lists did not run on all recordings: {said}."
 
 

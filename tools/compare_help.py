@@ -24,7 +24,8 @@ lists are read as ./run reads them.
 
 As text the first list stands first: give the node's own one first. Percent are of its figures. The others are sorted by
 their memory. There are two columns of memory: where the input has comments `# mark peak..` and `# mark valley..`, as
-tools/load writes them, the columns are mb_peak and mb_valley; else they are mb_most, if it is known, and mb_end. --wide has nearly all columns; CSV and JSON have all.
+tools/load writes them, the columns are mb_peak and mb_valley; else they are mb_most, if it is known, and mb_end. --wide
+has nearly all columns; CSV and JSON have all.
 """
 
 EPILOG = """\

@@ -29,10 +29,10 @@ def notes_on_flags(rows):
         if it.get("status") == 0 and it.get("type"):
             letters.setdefault((it.get("trace"), it.get("flags") or ""), {})[it["type"]] = True
     is_one = is_of_one_node(rows)
-    others = sorted({it for those in letters.values() for it in those}) if is_one else ()
+    of_all = sorted({it for those in letters.values() for it in those}) if is_one else ()
     is_several = not is_one and len({trace for trace, _ in letters}) > 1
     for (trace, flags), those in letters.items():
-        for note in notes_on(flags.split(), [*those], others):
+        for note in notes_on(flags.split(), [*those], of_all):
             yield f"{trace}: {note}." if is_several else f"{note}."
 
 

@@ -252,14 +252,15 @@ def notes_on_letters(words, letters):
         yield f"{listed(others)} flags change nothing here: {why}"
 
 
-def notes_on(words, letters, others=()):
+def notes_on(words, letters, of_all=()):
     """What has to be said of the words of flags for an input of these letters, or for one whose letters are not known:
-    None. `others` are those of further inputs that the flags are for. Of words that are refused nothing is said."""
+    None. `of_all` are those of all inputs that the flags are for, where there are several. Of words that are refused
+    nothing is said."""
     if refusal(words):
         return
     yield from notes_on_strategies(words, EVERY_LETTER if letters is None else letters)
     if letters is not None:
-        yield from notes_on_letters(words, [*letters, *(it for it in others if it not in letters)])
+        yield from notes_on_letters(words, of_all or letters)
 
 
 # Inputs
