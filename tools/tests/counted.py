@@ -1,6 +1,14 @@
-"""How a file of tests runs."""
+"""How a file of tests runs, and what it starts."""
+import signal
 import sys
 import unittest
+
+
+def take_signals():
+    """Has a child take these signals: a shell starts what runs in the background, and nohup what it runs, with some of
+    them ignored."""
+    for it in signal.SIGINT, signal.SIGTERM, signal.SIGHUP:
+        signal.signal(it, signal.SIG_DFL)
 
 
 def run_tests():

@@ -21,7 +21,7 @@ import advise_node
 from advise_case import front_of, moments_of
 from advise_runs import Result, Trial, carriers_of, single_changes, together
 from advise_table import Check, Table, advice_on, to_paste
-from counted import run_tests
+from counted import run_tests, take_signals
 from recording import Instance, Mark
 from texts import Text
 
@@ -303,7 +303,7 @@ class Command(unittest.TestCase):
     @unittest.skipUnless(takes_recorded(), "no program was given that takes recorded operations")
     def test_an_interrupt_keeps_what_was_done(self):
         words = [sys.executable, "-B", ADVISE, "--recorded", SHOP, "--program", PROGRAM, "--jobs", "1"]
-        how = {"stdout": subprocess.PIPE, "stderr": subprocess.PIPE, "text": True}
+        how = {"stdout": subprocess.PIPE, "stderr": subprocess.PIPE, "text": True, "preexec_fn": take_signals}
         with subprocess.Popen(words, env={**os.environ, "TMPDIR": self.room}, **how) as child:
             self.assertEqual(child.stdout.readline(), "binary_alloc\n")
             self.assertIn("trusted", child.stdout.readline())

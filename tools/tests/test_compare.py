@@ -21,7 +21,7 @@ import time
 import unittest
 
 sys.dont_write_bytecode = True
-from counted import run_tests
+from counted import run_tests, take_signals
 
 TOP = os.path.dirname(os.path.dirname(os.path.dirname(os.path.realpath(__file__))))
 TOOL = f"{TOP}/tools/compare"
@@ -1000,8 +1000,7 @@ class Compare(unittest.TestCase):
         """The tool in a group of its own, once `bf` has begun."""
         if os.path.exists(f"{self.room}/begun"):
             os.unlink(f"{self.room}/begun")
-        # A shell starts what runs in the background with one of these ignored.
-        how = {"preexec_fn": lambda: signal.signal(signal.SIGINT, signal.SIG_DFL), "start_new_session": True}
+        how = {"preexec_fn": take_signals, "start_new_session": True}
         streams = {"stdout": subprocess.PIPE, "stderr": subprocess.PIPE, "text": True, **streams}
         ran = subprocess.Popen(self.words(*self.slow(), *words), cwd=self.room, **streams, **how)
         self.addCleanup(ran.wait)
